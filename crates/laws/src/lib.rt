@@ -1,0 +1,1 @@
+// Laws that every other crate cites; the laws are in specs/. No code.

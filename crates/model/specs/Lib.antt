@@ -1,0 +1,4 @@
+pub mod Code
+pub mod Record
+pub mod Store
+pub mod Answers

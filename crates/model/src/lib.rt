@@ -1,0 +1,368 @@
+// The types of document 01 in the names of model.rs: the run record (`State`) with its accessors, events and answers.
+pub mod answer;
+pub mod code;
+pub mod event;
+
+use workflow::Found;
+ghost use mathlib.Core.Path.{_≡_};
+ghost use Prim.Native.Nat.{_<_, max};
+ghost use Rattle.laws.specs.Shift.{without};
+ghost use Rattle.model.specs.Record.{no-position, no-invocation, no-signal, fresh, visits-of, with-visits, streak-of, with-streak, with-result, seen, placed, finished, is-terminal};
+ghost use Rattle.model.specs.Answers.{output-numbers, kept-numbers};
+ghost use Rattle.model.specs.Store.{first-signal, signal-at, removed, appended};
+
+pub struct ErrorInfo {
+    pub code: u32,
+    pub node: u32,
+    pub detail: u32,
+}
+
+// What a node or a run yielded: a handle or an error, or nothing so far.
+pub enum Output {
+    Nothing,
+    Handle(u32),
+    Error(ErrorInfo),
+}
+
+pub struct RunResult {
+    pub output: Output,
+}
+
+pub struct BufferedSignal {
+    pub sequence: u64,
+    pub event_id: u32,
+    pub signal: u32,
+    pub outcome: u32,
+    pub data: u32,
+}
+
+// How often a node was entered.
+pub struct Visits {
+    pub count: u32,
+}
+
+// How often in a row a node routed a limited outcome; count 0 for none.
+pub struct Streak {
+    pub outcome: u32,
+    pub count: u32,
+}
+
+// A node's latest result; its output is `Nothing` where it has none.
+pub struct NodeResult {
+    pub visit: u32,
+    pub outcome: u32,
+    pub output: Output,
+}
+
+// The node where the run stands; 255 and 0 for none.
+pub struct Position {
+    pub node: u32,
+    pub visit: u32,
+}
+
+// The error that a stuck invocation keeps.
+pub enum Kept {
+    Nothing,
+    Error(ErrorInfo),
+}
+
+// The outstanding invocation; phase 0, node 255 and zeros for none.
+pub struct InvocationState {
+    pub phase: u32,
+    pub node: u32,
+    pub visit: u32,
+    pub action: u32,
+    pub attempt: u32,
+    // the input's handle, which is its digest
+    pub input: u32,
+    pub error: Kept,
+}
+
+// The run record. Signals are stored oldest first; visits, streaks and results are by node.
+pub struct State {
+    pub signals: [BufferedSignal; 64],
+    pub visits: [Visits; 64],
+    pub streaks: [Streak; 64],
+    pub results: [NodeResult; 64],
+    pub last_sequence: u64,
+    pub last_accepted_at: u64,
+    pub signal_count: u32,
+    pub status: u32,
+    pub input: u32,
+    pub activations: u32,
+    pub position: Position,
+    pub invocation: InvocationState,
+    pub result: RunResult,
+}
+
+impl Output {
+    pub fn numbers(self) -> [u64; 4]
+        ensures { λ r. ⌜ r ≡ output-numbers self ⌝ }
+    {
+        match self {
+            Output::Nothing => [0; 4],
+            Output::Handle(x) => [1, x as u64, 0, 0],
+            Output::Error(e) => [2, e.code as u64, e.node as u64, e.detail as u64],
+        }
+    }
+}
+
+impl Kept {
+    pub fn numbers(self) -> [u64; 4]
+        ensures { λ r. ⌜ r ≡ kept-numbers self ⌝ }
+    {
+        match self {
+            Kept::Nothing => [0; 4],
+            Kept::Error(e) => [1, e.code as u64, e.node as u64, e.detail as u64],
+        }
+    }
+}
+
+impl Position {
+    pub fn none() -> Position
+        ensures { λ r. ⌜ r ≡ no-position ⌝ }
+    {
+        Position {
+            node: code::NONE,
+            visit: 0,
+        }
+    }
+}
+
+impl InvocationState {
+    pub fn none() -> InvocationState
+        ensures { λ r. ⌜ r ≡ no-invocation ⌝ }
+    {
+        InvocationState {
+            phase: 0,
+            node: code::NONE,
+            visit: 0,
+            action: 0,
+            attempt: 0,
+            input: 0,
+            error: Kept::Nothing,
+        }
+    }
+}
+
+impl BufferedSignal {
+    pub fn none() -> BufferedSignal
+        ensures { λ r. ⌜ r ≡ no-signal ⌝ }
+    {
+        BufferedSignal {
+            sequence: 0,
+            event_id: 0,
+            signal: 0,
+            outcome: 0,
+            data: 0,
+        }
+    }
+}
+
+impl State {
+    // How many signals are stored at most.
+    pub const STORE: u32 = 64;
+
+    // The record that a start makes, before its start node is entered.
+    pub fn fresh(input: u32) -> State
+        ensures { λ r. ⌜ r ≡ fresh input ⌝ }
+    {
+        State {
+            signals: [BufferedSignal::none(); 64],
+            visits: [Visits { count: 0 }; 64],
+            streaks: [Streak {
+                outcome: 0,
+                count: 0,
+            }; 64],
+            results: [NodeResult {
+                visit: 0,
+                outcome: 0,
+                output: Output::Nothing,
+            }; 64],
+            last_sequence: 0,
+            last_accepted_at: 0,
+            signal_count: 0,
+            status: code::RUNNING,
+            input: input,
+            activations: 0,
+            position: Position::none(),
+            invocation: InvocationState::none(),
+            result: RunResult {
+                output: Output::Nothing,
+            },
+        }
+    }
+
+    pub fn visits_of(self, node: u32) -> Visits
+        ensures { λ r. ⌜ r ≡ visits-of self node ⌝ }
+    {
+        let n = node as usize;
+        if n < 64 {
+            return self.visits[n];
+        }
+        Visits { count: 0 }
+    }
+
+    // One more visit of a node, and one more activation.
+    pub fn with_visits(mut self, node: u32, count: u32, activations: u32) -> State
+        ensures { λ r. ⌜ r ≡ with-visits self node count activations ⌝ }
+    {
+        self.activations = activations;
+        let n = node as usize;
+        if n < 64 {
+            self.visits[n] = Visits { count: count };
+        }
+        self
+    }
+
+    pub fn streak_of(self, node: u32) -> Streak
+        ensures { λ r. ⌜ r ≡ streak-of self node ⌝ }
+    {
+        let n = node as usize;
+        if n < 64 {
+            return self.streaks[n];
+        }
+        Streak {
+            outcome: 0,
+            count: 0,
+        }
+    }
+
+    pub fn with_streak(mut self, node: u32, streak: Streak) -> State
+        ensures { λ r. ⌜ r ≡ with-streak self node streak ⌝ }
+    {
+        let n = node as usize;
+        if n < 64 {
+            self.streaks[n] = streak;
+        }
+        self
+    }
+
+    pub fn with_result(mut self, node: u32, result: NodeResult) -> State
+        ensures { λ r. ⌜ r ≡ with-result self node result ⌝ }
+    {
+        let n = node as usize;
+        if n < 64 {
+            self.results[n] = result;
+        }
+        self
+    }
+
+    // The event is taken note of: its sequence, and the larger of the two times.
+    pub fn seen(mut self, sequence: u64, accepted_at: u64) -> State
+        ensures { λ r. ⌜ r ≡ seen self sequence «accepted_at» ⌝ }
+    {
+        self.last_sequence = sequence;
+        let later = later(self.last_accepted_at, accepted_at);
+        self.last_accepted_at = later;
+        self
+    }
+
+    // Where the run stands, and with which invocation.
+    pub fn placed(mut self, status: u32, position: Position, invocation: InvocationState) -> State
+        ensures { λ r. ⌜ r ≡ placed self status position invocation ⌝ }
+    {
+        self.status = status;
+        self.position = position;
+        self.invocation = invocation;
+        self
+    }
+
+    // The run ends.
+    pub fn finished(mut self, status: u32, result: RunResult) -> State
+        ensures { λ r. ⌜ r ≡ finished self status result ⌝ }
+    {
+        self.status = status;
+        self.position = Position::none();
+        self.invocation = InvocationState::none();
+        self.result = result;
+        self
+    }
+
+    // The place of the oldest stored signal of a name.
+    pub fn first_signal(self, signal: u32) -> Found
+        ensures { λ r. ⌜ r ≡ first-signal self signal ⌝ }
+    {
+        let n = workflow::capped(self.signal_count, 64);
+        let mut i: usize = 0;
+        while i < n {
+            let x = self.signals[i];
+            if x.signal == signal {
+                return Found::At(i as u32);
+            }
+            i += 1;
+        }
+        Found::Nothing
+    }
+
+    pub fn signal_at(self, place: u32) -> BufferedSignal
+        ensures { λ r. ⌜ r ≡ signal-at self place ⌝ }
+    {
+        let n = place as usize;
+        if n < 64 {
+            return self.signals[n];
+        }
+        BufferedSignal::none()
+    }
+
+    // The signal stored at a place goes, and the later ones move down.
+    pub fn remove_signal(mut self, place: u32) -> State
+        ensures { λ r. ⌜ r ≡ removed self place ⌝ }
+    {
+        let n = place as usize;
+        if workflow::capped(self.signal_count, 64) <= n {
+            return self;
+        }
+        let old = self.signals;
+        let rest = shifted(old, n);
+        self.signals = rest;
+        self.signal_count = self.signal_count - 1;
+        self
+    }
+
+    // The signal is stored behind the others; a full store stays as it is.
+    pub fn append_signal(mut self, signal: BufferedSignal) -> State
+        ensures { λ r. ⌜ r ≡ appended self signal ⌝ }
+    {
+        let n = self.signal_count as usize;
+        if 64 <= n {
+            return self;
+        }
+        self.signals[n] = signal;
+        self.signal_count = self.signal_count + 1;
+        self
+    }
+}
+
+fn later(a: u64, b: u64) -> u64
+    ensures { λ r. ⌜ r ≡ max a b ⌝ }
+{
+    if a < b {
+        return b;
+    }
+    a
+}
+
+// A run has ended when it is completed or failed.
+pub fn is_terminal(status: u32) -> bool
+    ensures { λ r. ⌜ r ≡ is-terminal status ⌝ }
+{
+    if status == code::RUN_COMPLETED {
+        return true;
+    }
+    status == code::RUN_FAILED
+}
+
+fn shifted(mut signals: [BufferedSignal; 64], start: usize) -> [BufferedSignal; 64]
+    requires { ⌜ start < 64 ⌝ }
+    ensures { λ r. ⌜ r ≡ without no-signal signals start ⌝ }
+{
+    let mut k = start;
+    while k < 63 {
+        let x = signals[k + 1];
+        signals[k] = x;
+        k += 1;
+    }
+    signals[63] = BufferedSignal::none();
+    signals
+}
