@@ -1,6 +1,6 @@
 -- Tests and cases.
-use mathlib.Core.Path.{_≡_, refl}
-use mathlib.Core.Bool.{Bool, true, false}
+use mathlib.Core.Path.{_≡_, refl, sym}
+use mathlib.Core.Bool.{Bool, true, false, false≢true}
 
 infix 20 if_then_else_
 unfoldable pub if_then_else_ : {A : Type 0} → Bool → A → A → A
@@ -21,3 +21,30 @@ _or_ false b = b
 pub split : {G : Type 0} (b : Bool) → (b ≡ true → G) → (b ≡ false → G) → G
 split true p q = p refl
 split false p q = q refl
+
+-- Both of two, and neither of two.
+pub both : (a b : Bool) → a and b ≡ true → (a ≡ true) × (b ≡ true)
+unfolding _and_
+both true b e = (refl, e)
+both false b e = absurd (false≢true e)
+
+pub join : (a b : Bool) → a ≡ true → b ≡ true → a and b ≡ true
+unfolding _and_
+join true b e f = f
+join false b e f = absurd (false≢true e)
+
+pub neither : (a b : Bool) → a or b ≡ false → (a ≡ false) × (b ≡ false)
+unfolding _or_
+neither true b e = absurd (false≢true (sym e))
+neither false b e = (refl, e)
+
+-- A conditional whose test is known.
+pub if-true : {A : Type 0} (b : Bool) (x y : A) → b ≡ true → (if b then x else y) ≡ x
+unfolding if_then_else_
+if-true true x y e = refl
+if-true false x y e = absurd (false≢true e)
+
+pub if-false : {A : Type 0} (b : Bool) (x y : A) → b ≡ false → (if b then x else y) ≡ y
+unfolding if_then_else_
+if-false true x y e = absurd (false≢true (sym e))
+if-false false x y e = refl

@@ -1,6 +1,9 @@
 pub mod Bool
 pub mod Rows
 pub mod First
+pub mod Every
+pub mod In
+pub mod All
 pub mod Shift
 pub mod Settle
 pub mod Arrays

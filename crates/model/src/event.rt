@@ -41,17 +41,17 @@ pub struct Mappings {
     pub count: u32,
 }
 
-// The largest numbers that a sheet may ask for.
-pub struct Ceilings {
-    pub nodes: u32,
-    pub visits: u32,
-    pub activations: u32,
-    pub attempts: u32,
-}
-
 // What one call may use.
 pub struct Limits {
     pub microsteps: u32,
     pub commands: u32,
     pub operations: u32,
+}
+
+// A mapping value as a node finds it.
+pub enum Evaluated {
+    Value(u32),
+    Fault { code: u32, detail: u32 },
+    Unencodable,
+    Lacking,
 }

@@ -2,6 +2,7 @@
 pub mod answer;
 pub mod code;
 pub mod event;
+pub mod moves;
 
 use workflow::Found;
 ghost use mathlib.Core.Path.{_≡_};

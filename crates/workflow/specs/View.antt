@@ -1,10 +1,12 @@
 -- How the lent numbers of a sheet are read: a workflow is a record of lists of rows.
+use mathlib.Core.Bool.{Bool}
 use mathlib.Core.List.{List}
 use Prim.Native.Nat.{ℕ, _+_, min}
 use lib.ListN.{getD}
-use lib.Dec.{ltb}
-use Rattle.laws.specs.Bool.{if_then_else_}
+use lib.Dec.{ltb, eqb}
+use Rattle.laws.specs.Bool.{if_then_else_, _and_}
 use Rattle.laws.specs.Rows.{span}
+use Rattle.laws.specs.Every.{every}
 use Rattle.workflow.specs.declared.Node.{Node}
 use Rattle.workflow.specs.declared.Route.{Route}
 use Rattle.workflow.specs.declared.Limit.{Limit}
@@ -56,7 +58,22 @@ action-at w i = if ltb i 64 then record { effect = at w (3529 + i); «max_attemp
 unfoldable pub declared-at : List ℕ → ℕ → Declared
 declared-at w i = if ltb i 256 then record { action = at w (3657 + i); outcome = at w (3913 + i) } else no-declared
 
--- A sheet. The counts are kept as they stand, so that one over its room can be told; the rows are those that are counted and have room.
+-- The numbers of a column at or past its count are zero.
+abbrev pub column-blank : List ℕ → (column room count : ℕ) → Bool
+column-blank w a r k = every (λ x. eqb x 0) (span (at w) (a + min r k) (a + r))
+
+-- Every unused slot is zero.
+unfoldable pub blank : List ℕ → Bool
+blank w =
+    column-blank w 9 64 (at w 4) and column-blank w 73 64 (at w 4) and column-blank w 137 64 (at w 4) and column-blank w 201 64 (at w 4)
+    and column-blank w 265 64 (at w 4) and column-blank w 329 64 (at w 4) and column-blank w 393 64 (at w 4)
+    and column-blank w 457 512 (at w 5) and column-blank w 969 512 (at w 5) and column-blank w 1481 512 (at w 5)
+    and column-blank w 1993 512 (at w 6) and column-blank w 2505 512 (at w 6) and column-blank w 3017 512 (at w 6)
+    and column-blank w 3529 64 (at w 7) and column-blank w 3593 64 (at w 7)
+    and column-blank w 3657 256 (at w 8) and column-blank w 3913 256 (at w 8)
+
+-- A sheet. The counts are kept as they stand, so that one over its room can be told; the rows are those that are counted and have room; blank says that
+-- all other slots are zero.
 pub record Workflow : Type 0 where
   pub format : ℕ
   pub start : ℕ
@@ -72,6 +89,7 @@ pub record Workflow : Type 0 where
   pub limits : List Limit
   pub actions : List Action
   pub declared : List Declared
+  pub blank : Bool
 
 abbrev pub workflow : List ℕ → Workflow
 workflow w =
@@ -90,4 +108,5 @@ workflow w =
       limits = span (limit-at w) 0 (min 512 (at w 6));
       actions = span (action-at w) 0 (min 64 (at w 7));
       declared = span (declared-at w) 0 (min 256 (at w 8));
+      blank = blank w;
     }

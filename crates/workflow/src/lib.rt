@@ -103,6 +103,14 @@ pub struct Declared {
     pub outcome: u32,
 }
 
+// The largest numbers that a sheet may ask for.
+pub struct Ceilings {
+    pub nodes: u32,
+    pub visits: u32,
+    pub activations: u32,
+    pub attempts: u32,
+}
+
 // What a lookup finds.
 pub enum Found {
     At(u32),

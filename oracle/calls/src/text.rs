@@ -882,6 +882,7 @@ fn record_number(state: &mut State, offset: usize) -> Option<Number<'_>> {
 #[cfg(test)]
 mod tests {
     use super::*;
+    use crate::numbers;
 
     fn call() -> Call {
         let mut workflow = Workflow::empty();
@@ -936,18 +937,26 @@ mod tests {
     }
 
     #[test]
-    fn every_number_of_a_sheet_has_its_own_offset() {
+    fn offsets_are_those_of_the_number_form() {
         let mut workflow = Workflow::empty();
-        for offset in 0..4169 {
+        for offset in 0..numbers::SHEET {
             *sheet_number(&mut workflow, offset).expect("an offset") = offset as u32 + 1;
         }
-        for offset in 0..4169 {
-            assert_eq!(
-                sheet_number(&mut workflow, offset).copied(),
-                Some(offset as u32 + 1)
-            );
+        let sheet = numbers::sheet(&workflow);
+        assert!((1..)
+            .zip(sheet.iter())
+            .all(|(place, number)| place == *number));
+        assert!(sheet_number(&mut workflow, numbers::SHEET).is_none());
+
+        let mut state = State::fresh(0);
+        for offset in 0..numbers::RECORD {
+            let Some(number) = record_number(&mut state, offset) else {
+                continue;
+            };
+            number.set(offset as u64 + 1).expect("a small number");
+            assert_eq!(numbers::record(&state)[offset], offset as u64 + 1);
         }
-        assert_eq!(sheet_number(&mut workflow, 4169), None);
+        assert!(record_number(&mut state, numbers::RECORD).is_none());
     }
 
     #[test]

@@ -371,7 +371,8 @@ fn within(count: u32, capacity: usize) -> Option<usize> {
     (count <= capacity).then_some(count)
 }
 
-/// A known kind, and nothing in the fields that it doesn't use.
+/// A known kind, marks of 0 or 1, a signal of 8 bits, a code of 16, and nothing in the fields that the kind doesn't
+/// use. An action that isn't there is for rule 8.
 fn node_fits(node: &Node) -> bool {
     let activity = node.action | node.has_params;
     let fail = node.code | node.detail;
@@ -422,22 +423,43 @@ fn unused_are_zero(workflow: &Workflow) -> bool {
     let limits = &workflow.limits[workflow.limit_count as usize..];
     let actions = &workflow.actions[workflow.action_count as usize..];
     let declared = &workflow.declared[workflow.declared_count as usize..];
-    let mut any = 0;
-    for node in nodes {
-        any |= node.kind | node.action | node.has_params | node.signal;
-        any |= node.code | node.detail | node.has_limits;
-    }
-    for row in routes {
-        any |= row.node | row.outcome | row.target;
-    }
-    for row in limits {
-        any |= row.node | row.outcome | row.limit;
-    }
-    for action in actions {
-        any |= action.effect | action.max_attempts;
-    }
-    for row in declared {
-        any |= row.action | row.outcome;
-    }
+    let any = bits(nodes, |x| {
+        [
+            x.kind,
+            x.action,
+            x.has_params,
+            x.signal,
+            x.code,
+            x.detail,
+            x.has_limits,
+        ]
+    }) | bits(routes, |x| [x.node, x.outcome, x.target])
+        | bits(limits, |x| [x.node, x.outcome, x.limit])
+        | bits(actions, |x| [x.effect, x.max_attempts])
+        | bits(declared, |x| [x.action, x.outcome]);
     any == 0
+}
+
+/// The bits that are set in any field of the rows. Four rows at a time, each field by itself: so it runs on whole
+/// vectors.
+#[inline(always)]
+fn bits<T, const N: usize>(rows: &[T], fields: impl Fn(&T) -> [u32; N]) -> u32 {
+    let mut any = [[0; N]; 4];
+    let mut chunks = rows.chunks_exact(4);
+    for chunk in &mut chunks {
+        for (any, row) in any.iter_mut().zip(chunk) {
+            add(any, fields(row));
+        }
+    }
+    for row in chunks.remainder() {
+        add(&mut any[0], fields(row));
+    }
+    any.iter().flatten().fold(0, |any, field| any | field)
+}
+
+#[inline(always)]
+fn add<const N: usize>(any: &mut [u32; N], fields: [u32; N]) {
+    for (any, field) in any.iter_mut().zip(fields) {
+        *any |= field;
+    }
 }

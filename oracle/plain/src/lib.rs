@@ -3,6 +3,7 @@
 //! It is the second reading beside the original and the baseline for speed. It is total: whatever numbers the structs
 //! hold, there is an answer.
 
+mod boxed;
 mod event;
 mod graph;
 mod machine;

@@ -40,10 +40,13 @@ fn signals_fit(state: &State) -> bool {
         return false;
     }
     let (used, unused) = state.signals.split_at(count);
-    used.iter().all(|signal| signal.sequence <= MOST)
-        && unused
-            .iter()
-            .all(|signal| *signal == BufferedSignal::default())
+    used.iter().all(|signal| signal.sequence <= MOST) && unused.iter().fold(0, bits) == 0
+}
+
+/// The bits that are set in any field.
+fn bits(any: u64, signal: &BufferedSignal) -> u64 {
+    let fields = signal.event_id | signal.signal | signal.outcome | signal.data;
+    any | signal.sequence | u64::from(fields)
 }
 
 /// Streaks that the sheet's limits allow; nothing in unused slots and in those of nodes that the sheet lacks.
@@ -58,10 +61,10 @@ fn slots_fit(state: &State, graph: &Graph) -> bool {
             return false;
         }
     }
-    state.visits[count..].iter().all(|visits| *visits == 0)
-        && state.streaks[count..]
-            .iter()
-            .all(|streak| *streak == Streak::default())
+    let streaks = &state.streaks[count..];
+    let any = state.visits[count..].iter().fold(0, |any, x| any | x)
+        | streaks.iter().fold(0, |any, x| any | x.outcome | x.count);
+    any == 0
         && state.results[count..]
             .iter()
             .all(|result| *result == NodeResult::default())

@@ -1,6 +1,5 @@
 //! Stands in for the original's failures and encodings.
 
-use runspore_types::model::code;
 use runspore_types::reducer::Failure;
 use runspore_types::script::{self, Trace};
 use serde::Serialize;
@@ -34,7 +33,7 @@ pub(crate) fn unencodable(message: String) -> Failure {
 }
 
 pub(crate) fn encode<T: Serialize>(value: &T) -> Result<Vec<u8>, Failure> {
-    serde_json::to_vec(value).map_err(|error| failure(code::STATE_INVALID, error.to_string()))
+    serde_json::to_vec(value).map_err(|error| invariant(error.to_string()))
 }
 
 pub(crate) fn to_vec(value: &Value) -> Result<Vec<u8>, Failure> {
@@ -43,6 +42,8 @@ pub(crate) fn to_vec(value: &Value) -> Result<Vec<u8>, Failure> {
 }
 
 pub(crate) fn object<const N: usize>(fields: [(&str, Value); N]) -> Value {
-    let fields = fields.into_iter().map(|(key, value)| (key.to_string(), value));
+    let fields = fields
+        .into_iter()
+        .map(|(key, value)| (key.to_string(), value));
     Value::Object(fields.collect::<Map<_, _>>())
 }

@@ -35,7 +35,7 @@ pub mod ids {
 
     /// The machine asks once for each command.
     pub fn command(_tenant: &str, _run_id: &str, activation_id: &str, ordinal: u32) -> String {
-        script::trace(Trace::Command);
+        script::trace(Trace::Command(ordinal));
         attempt(activation_id, ordinal)
     }
 }

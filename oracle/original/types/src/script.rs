@@ -35,8 +35,8 @@ pub enum Trace {
     Activation(String),
     /// Details or an input were encoded: once for each diagnostic, and at last once for a scheduled input.
     Details,
-    /// A command was numbered.
-    Command,
+    /// A command was numbered with the attempt it authorizes.
+    Command(u32),
 }
 
 #[derive(Debug, Default)]

@@ -1,0 +1,7 @@
+// The verdict on a sheet.
+
+// The first broken rule with its item, or none.
+pub enum Verdict {
+    Fine,
+    Broken { rule: u32, item: u32 },
+}

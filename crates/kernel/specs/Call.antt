@@ -1,0 +1,130 @@
+-- A call, whole and in the order of document 01: sheet, event, record, step, finish.
+use mathlib.Core.Bool.{Bool, true, false, not}
+use mathlib.Core.List.{List, [], _∷_}
+use Prim.Native.Nat.{ℕ, _+_}
+use lib.ListN.{take}
+use lib.Dec.{ltb, leb, eqb}
+use Rattle.laws.specs.Bool.{if_then_else_, _and_, _or_}
+use Rattle.laws.specs.Every.{every}
+use Rattle.workflow.specs.View.{Workflow}
+use Rattle.workflow.specs.declared.Ceilings.{Ceilings}
+use Rattle.graph.specs.declared.Verdict.{Verdict}
+use Rattle.graph.specs.declared.Verdict.the-variants.{Fine, Broken}
+use Rattle.graph.specs.Verdict.{verdict}
+use Rattle.model.specs.declared.State.{State}
+use Rattle.model.specs.declared.event.Event.{Event}
+use Rattle.model.specs.declared.event.Mapping.{Mapping}
+use Rattle.model.specs.declared.event.Mappings.{Mappings}
+use Rattle.model.specs.declared.event.Limits.{Limits}
+use Rattle.model.specs.declared.answer.Order.{Order}
+use Rattle.model.specs.declared.answer.Note.{Note}
+use Rattle.model.specs.declared.answer.Ending.{Ending}
+use Rattle.model.specs.declared.moves.Next.{Next}
+use Rattle.model.specs.declared.moves.Next.the-variants.{Rest, Enter, Take, Consume, Wants, Refuse}
+use Rattle.model.specs.Code.{none, largest, run-started, activity-result, invocation-resolved}
+use Rattle.model.specs.Record.{fresh}
+use Rattle.model.specs.Check.{consistent}
+use Rattle.kernel.specs.Drive.{Machine, driven}
+
+-- What a call carries beside the sheet and the record.
+pub record Call : Type 0 where
+  pub ceilings : Ceilings
+  pub limits : Limits
+  pub event : Event
+  pub mappings : Mappings
+
+-- The record that stands, if there is one.
+pub data Last : Type 0 where
+  no-record : Last
+  last : State → Last
+
+-- The answer is one of three: a next record with its order, notes and endings; a want of one mapping value, with the record at that moment; a refusal with its number and item.
+pub record Accepted : Type 0 where
+  pub state : State
+  pub order : Order
+  pub notes : List Note
+  pub endings : List Ending
+  pub microsteps : ℕ
+
+pub data Answer : Type 0 where
+  next : Accepted → Answer
+  wants : (node field come-from : ℕ) → State → Answer
+  refused : (number item : ℕ) → Answer
+
+-- 21: sequence or time above 2^63 - 1, over 2 answers, or an unknown kind, status, resolution or kind of answer.
+abbrev pub in-range : (first last x : ℕ) → Bool
+in-range a b x = leb a x and leb x b
+
+unfoldable pub event-fits : Event → Mappings → Bool
+event-fits e m =
+    leb (e .sequence) largest and leb (e .«accepted_at») largest and leb (m .count) 2
+    and in-range 1 5 (e .kind)
+    and (not (eqb (e .kind) activity-result) or in-range 1 4 (e .status))
+    and (not (eqb (e .kind) invocation-resolved) or in-range 1 3 (e .resolution))
+    and every (λ x. in-range 1 3 (x .kind)) (take (m .count) (m .answers))
+
+-- 29 and 30: orders over the command limit, operations over theirs. A want and a refusal come before.
+abbrev pub orders : Order → ℕ
+orders Order.Nothing = 0
+orders (Order.Schedule x) = 1
+orders (Order.Retry x) = 1
+
+abbrev pub accepted-of : Machine → Accepted
+accepted-of x = record { state = x .state; order = x .order; notes = x .notes; endings = x .endings; microsteps = x .microsteps }
+
+unfoldable pub finish-by : Next → Limits → Machine → Answer
+finish-by Rest l x =
+    if ltb (l .commands) (orders (x .order)) then refused 29 none else
+    if ltb (l .operations) (x .operations) then refused 30 none else
+    next (accepted-of x)
+finish-by (Wants n i b) l x = wants n i b (x .state)
+finish-by (Refuse k) l x = refused k none
+finish-by (Enter n b) l x = refused 0 none
+finish-by Take l x = refused 0 none
+finish-by Consume l x = refused 0 none
+
+abbrev pub finish : Limits → Machine → Answer
+finish l x = finish-by (x .next) l x
+
+-- A call is turned away before its step, or comes to it.
+pub data Course : Type 0 where
+  away : (number item : ℕ) → Course
+  stepped : Machine → Course
+
+module _ (f : Workflow) where
+  abbrev pub step : Call → State → Course
+  step c s = stepped (driven f (c .limits .microsteps) (c .event) (c .mappings) s)
+
+  -- Start without record: 22 if sequence isn't 1; other without record: 23; start with record: 24; else 25 run check, then 22 if not last + 1.
+  unfoldable pub record-stage : Call → Last → Course
+  record-stage c no-record =
+      if not (eqb (c .event .kind) run-started) then away 23 none else
+      if not (eqb (c .event .sequence) 1) then away 22 none else
+      step c (fresh (c .event .input))
+  record-stage c (last s) =
+      if eqb (c .event .kind) run-started then away 24 none else
+      if not (consistent f s) then away 25 none else
+      if not (eqb (c .event .sequence) (s .«last_sequence» + 1)) then away 22 none else
+      step c s
+
+  unfoldable pub event-stage : Call → Last → Course
+  event-stage c r = if event-fits (c .event) (c .mappings) then record-stage c r else away 21 none
+
+  unfoldable pub sheet-stage : Verdict → Call → Last → Course
+  sheet-stage (Broken k i) c r = away k i
+  sheet-stage Fine c r = event-stage c r
+
+  unfoldable pub course : Last → Call → Course
+  course r c = sheet-stage (verdict f (c .ceilings)) c r
+
+unfoldable pub conclude : Limits → Course → Answer
+conclude l (away k i) = refused k i
+conclude l (stepped x) = finish l x
+
+-- The microsteps that a call counts, whatever its answer.
+unfoldable pub counted : Course → ℕ
+counted (away k i) = 0
+counted (stepped x) = x .microsteps
+
+unfoldable pub transition : Workflow → Last → Call → Answer
+transition f r c = conclude (c .limits) (course f r c)

@@ -1,0 +1,1 @@
+// A call. The definition is in specs/.

@@ -1,0 +1,213 @@
+//! Counts of what the calls reached.
+
+use std::collections::BTreeMap;
+
+use calls::{Answer, Call, Note, Order, Output, NONE};
+
+#[derive(Default)]
+pub struct Counts {
+    pub calls: u64,
+    reached: BTreeMap<String, u64>,
+}
+
+impl Counts {
+    pub fn count(&mut self, call: &Call, answer: &Answer) {
+        self.calls += 1;
+        for key in keys(call, answer) {
+            *self.reached.entry(key).or_default() += 1;
+        }
+    }
+
+    pub fn add(&mut self, other: &Counts) {
+        self.calls += other.calls;
+        for (key, count) in &other.reached {
+            *self.reached.entry(key.clone()).or_default() += count;
+        }
+    }
+
+    pub fn of(&self, key: &str) -> u64 {
+        self.reached.get(key).copied().unwrap_or(0)
+    }
+
+    /// What must be reached and wasn't.
+    pub fn missing(&self) -> Vec<String> {
+        required()
+            .into_iter()
+            .filter(|key| self.of(key) == 0)
+            .collect()
+    }
+
+    /// Rows of a table in Markdown.
+    pub fn table(&self) -> String {
+        let mut text = String::from("| Reached | Calls |\n|---|---|\n");
+        for (key, count) in &self.reached {
+            text.push_str(&format!("| {key} | {count} |\n"));
+        }
+        text
+    }
+}
+
+/// Everything of this call that is worth counting, each once.
+pub fn keys(call: &Call, answer: &Answer) -> Vec<String> {
+    let mut keys = Vec::new();
+    match answer {
+        Answer::Refused { number, item } => {
+            let item = match (number, item) {
+                (_, &NONE) => "no item",
+                (7 | 16, _) => "an action",
+                _ => "a node",
+            };
+            keys.push(format!("refusal {number:02}, {item}"));
+        }
+        Answer::Wants {
+            field, from, state, ..
+        } => {
+            let field = ["input", "params", "output"][*field as usize % 3];
+            let from = if *from == NONE { "start" } else { "a node" };
+            keys.push(format!("want {field}, from {from}"));
+            keys.push(format!("want in status {}", state.status));
+        }
+        Answer::Next {
+            state,
+            orders,
+            notes,
+            endings,
+            microsteps,
+        } => {
+            keys.push(format!("next, event {}", call.event.kind));
+            keys.push(format!("next, status {}", state.status));
+            keys.push(order_key(orders));
+            keys.push(steps_key(*microsteps));
+            keys.extend(notes.iter().map(note_key));
+            keys.extend(endings.iter().map(|e| format!("ending {}", e.ending)));
+            if notes.len() == 65 {
+                keys.push("65 notes".to_string());
+            }
+            if endings.len() == 65 {
+                keys.push("65 endings".to_string());
+            }
+            keys.extend(error_keys(call, answer));
+        }
+    }
+    keys.sort();
+    keys.dedup();
+    keys
+}
+
+fn order_key(orders: &[Order]) -> String {
+    match orders.first() {
+        None => "order none".to_string(),
+        Some(Order::Schedule { params: None, .. }) => "order schedule".to_string(),
+        Some(Order::Schedule { .. }) => "order schedule with params".to_string(),
+        Some(Order::Retry { .. }) => "order retry".to_string(),
+    }
+}
+
+fn steps_key(microsteps: u32) -> String {
+    match microsteps {
+        0..=3 => format!("microsteps {microsteps}"),
+        4..=64 => "microsteps 4 to 64".to_string(),
+        65..=129 => "microsteps 65 to 129".to_string(),
+        _ => format!("microsteps {microsteps}"),
+    }
+}
+
+fn note_key(note: &Note) -> String {
+    let current = if note.node == NONE {
+        "no node"
+    } else {
+        "current"
+    };
+    match note.code {
+        1 => format!("note 1, kind {}", note.a),
+        2 => format!("note 2, {current}"),
+        3 => format!("note 3, reason {}", note.c),
+        6 => format!("note 6, status {}", note.c),
+        7 if (3..=5).contains(&note.c) => format!("note 7, code {}", note.c),
+        7 => "note 7, host's code".to_string(),
+        code => format!("note {code}"),
+    }
+}
+
+/// Which kernel codes this call brought into the record, and where.
+fn error_keys(call: &Call, answer: &Answer) -> Vec<String> {
+    let Answer::Next { state, .. } = answer else {
+        return Vec::new();
+    };
+    let mut keys = Vec::new();
+    let ended_before = call.state.as_ref().is_some_and(|state| state.status > 3);
+    if let (Output::Error(error), false) = (&state.result, ended_before) {
+        if (1..=5).contains(&error.code) {
+            keys.push(format!("run's error, code {}", error.code));
+        }
+    }
+    for node in 0..state.results.len() {
+        let before = call.state.as_ref().map(|state| state.results[node]);
+        if let Output::Error(error) = &state.results[node].output {
+            if before != Some(state.results[node]) && (3..=5).contains(&error.code) {
+                keys.push(format!("node's error, code {}", error.code));
+            }
+        }
+    }
+    keys
+}
+
+/// What a comparison must reach.
+pub fn required() -> Vec<String> {
+    let mut keys: Vec<String> = Vec::new();
+    for number in [20, 1, 3, 5, 6, 21, 22, 23, 24, 25, 26, 27, 28, 29, 30] {
+        keys.push(format!("refusal {number:02}, no item"));
+    }
+    for number in [1, 8, 9, 12, 14, 15] {
+        keys.push(format!("refusal {number:02}, a node"));
+    }
+    for number in [7, 16] {
+        keys.push(format!("refusal {number:02}, an action"));
+    }
+    for status in 1..=5 {
+        keys.push(format!("next, status {status}"));
+        keys.push(format!("next, event {status}"));
+        keys.push(format!("run's error, code {status}"));
+    }
+    for ending in 1..=4 {
+        keys.push(format!("ending {ending}"));
+    }
+    for kind in 2..=5 {
+        keys.push(format!("note 1, kind {kind}"));
+    }
+    for code in 3..=5 {
+        keys.push(format!("note 3, reason {}", code - 2));
+        keys.push(format!("note 7, code {code}"));
+        keys.push(format!("node's error, code {code}"));
+    }
+    for rest in [
+        "note 2, current",
+        "note 2, no node",
+        "note 4",
+        "note 5",
+        "note 6, status 3",
+        "note 6, status 4",
+        "note 7, host's code",
+        "note 8",
+        "note 9",
+        "order none",
+        "order schedule",
+        "order schedule with params",
+        "order retry",
+        "want input, from start",
+        "want input, from a node",
+        "want params, from start",
+        "want params, from a node",
+        "want output, from start",
+        "want output, from a node",
+        "want in status 1",
+        "want in status 2",
+        "want in status 3",
+        "microsteps 130",
+        "65 notes",
+        "65 endings",
+    ] {
+        keys.push(rest.to_string());
+    }
+    keys
+}

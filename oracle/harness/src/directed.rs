@@ -1,0 +1,155 @@
+//! Calls that chance seldom reaches: Joint A, 130 microsteps, 65 notes and 65 endings.
+
+use calls::{
+    Action, BufferedSignal, Call, Ceilings, Declared, InvocationState, Limit, Node, Position,
+    Route, State, Streak, Workflow, NONE, STORE,
+};
+
+use crate::joint;
+
+pub fn calls() -> Vec<Call> {
+    let mut calls: Vec<Call> = joint::cases().into_iter().map(|case| case.call).collect();
+    for limit in [130, 129, 131, 65, u32::MAX] {
+        for outcome in [NONE, 4, 5, 9] {
+            let mut call = spin(outcome);
+            call.limits.microsteps = limit;
+            calls.push(call);
+        }
+    }
+    for outcome in [NONE, 4, 9] {
+        calls.push(noted(outcome));
+        calls.push(from_result(outcome));
+    }
+    calls
+}
+
+fn wide(mut call: Call) -> Call {
+    call.ceilings = Ceilings {
+        nodes: 64,
+        visits: 1000,
+        activations: 1000,
+        attempts: 64,
+    };
+    call
+}
+
+/// Node 0: activity, ok to 1, exhausted to 1, limit 1 on ok. Node 1: await signal 5, received and 4 to itself, 5 to 2,
+/// exhausted to itself, limit 1 on 4. Node 2 complete.
+fn sheet() -> Workflow {
+    let mut sheet = Workflow::empty();
+    sheet.format = 2;
+    sheet.max_visits_per_node = 200;
+    sheet.max_activations = 300;
+    sheet.node_count = 3;
+    sheet.nodes[0] = Node {
+        kind: 1,
+        has_limits: 1,
+        ..Node::default()
+    };
+    sheet.nodes[1] = Node {
+        kind: 2,
+        signal: 5,
+        has_limits: 1,
+        ..Node::default()
+    };
+    sheet.nodes[2].kind = 3;
+    let routes = [
+        (0, 0, 1),
+        (0, 3, 1),
+        (1, 1, 1),
+        (1, 3, 1),
+        (1, 4, 1),
+        (1, 5, 2),
+    ];
+    sheet.route_count = routes.len() as u32;
+    for (i, (node, outcome, target)) in routes.into_iter().enumerate() {
+        sheet.routes[i] = Route {
+            node,
+            outcome,
+            target,
+        };
+    }
+    sheet.limit_count = 2;
+    for (i, (node, outcome)) in [(0, 0), (1, 4)].into_iter().enumerate() {
+        sheet.limits[i] = Limit {
+            node,
+            outcome,
+            limit: 1,
+        };
+    }
+    sheet.action_count = 1;
+    sheet.actions[0] = Action {
+        effect: 0,
+        max_attempts: 1,
+    };
+    sheet.declared_count = 1;
+    sheet.declared[0] = Declared::default();
+    sheet
+}
+
+fn full(outcome: u32) -> State {
+    let mut state = State::fresh(42);
+    state.last_sequence = 70;
+    state.signal_count = STORE as u32;
+    for (i, signal) in state.signals.iter_mut().enumerate() {
+        *signal = BufferedSignal {
+            sequence: i as u64 + 3,
+            event_id: 1003 + i as u32,
+            signal: 5,
+            outcome,
+            data: 7,
+        };
+    }
+    state
+}
+
+fn waiting(outcome: u32) -> State {
+    let mut state = full(outcome);
+    state.status = 2;
+    state.position = Position { node: 1, visit: 1 };
+    state.visits[1] = 1;
+    state.activations = 1;
+    state
+}
+
+/// An arrival that routes, then 64 stored signals.
+fn spin(outcome: u32) -> Call {
+    let state = waiting(outcome);
+    wide(joint::call(&sheet(), Some(&state), joint::signal(5, NONE)))
+}
+
+/// The same with the arrival's limit used up.
+fn noted(outcome: u32) -> Call {
+    let mut state = waiting(outcome);
+    state.streaks[1] = Streak {
+        outcome: 4,
+        count: 1,
+    };
+    wide(joint::call(&sheet(), Some(&state), joint::signal(5, 4)))
+}
+
+/// A success whose limit is used up, then 64 stored signals.
+fn from_result(outcome: u32) -> Call {
+    let mut state = full(outcome);
+    state.position = Position { node: 0, visit: 2 };
+    state.visits[0] = 2;
+    state.activations = 3;
+    state.streaks[0] = Streak {
+        outcome: 0,
+        count: 1,
+    };
+    state.invocation = InvocationState {
+        phase: 1,
+        node: 0,
+        visit: 2,
+        action: 0,
+        attempt: 1,
+        input: 5,
+        error: None,
+    };
+    wide(joint::call(
+        &sheet(),
+        Some(&state),
+        joint::result(0, 2, 1, 1),
+    ))
+}

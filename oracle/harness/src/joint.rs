@@ -1,0 +1,455 @@
+//! The twelve cases of Joint A, with the answers that document 01's text gives them.
+
+use calls::{
+    Action, Answer, BufferedSignal, Call, Ceilings, Declared, Ending, ErrorInfo, Event,
+    InvocationState, Limit, Limits, Mapping, Mappings, Node, NodeResult, Note, Order, Output,
+    Position, Route, State, Streak, Workflow, MOST, NONE,
+};
+
+pub struct Case {
+    pub name: &'static str,
+    pub call: Call,
+    pub expected: Answer,
+}
+
+const INPUT: u32 = 42;
+const OUTPUT: u32 = 9;
+const DATA: u32 = 7;
+const CODE: u32 = 77;
+const DETAIL: u32 = 78;
+
+/// Format 2, visits 3, activations 10. Node 0: activity, action 0, ok to 1. Node 1: await signal 5, received to 2,
+/// outcome 4 to 0, exhausted to 3, limit 1 on 4. Node 2 complete, 3 fail. Action 0: effect 1, ok, 2 attempts.
+pub fn sheet() -> Workflow {
+    let mut sheet = Workflow::empty();
+    sheet.format = 2;
+    sheet.max_visits_per_node = 3;
+    sheet.max_activations = 10;
+    let nodes = [
+        Node {
+            kind: 1,
+            ..Node::default()
+        },
+        Node {
+            kind: 2,
+            signal: 5,
+            has_limits: 1,
+            ..Node::default()
+        },
+        Node {
+            kind: 3,
+            ..Node::default()
+        },
+        Node {
+            kind: 4,
+            code: CODE,
+            detail: DETAIL,
+            ..Node::default()
+        },
+    ];
+    sheet.node_count = 4;
+    sheet.nodes[..4].copy_from_slice(&nodes);
+    let routes = [(0, 0, 1), (1, 1, 2), (1, 3, 3), (1, 4, 0)];
+    sheet.route_count = 4;
+    for (i, (node, outcome, target)) in routes.into_iter().enumerate() {
+        sheet.routes[i] = Route {
+            node,
+            outcome,
+            target,
+        };
+    }
+    sheet.limit_count = 1;
+    sheet.limits[0] = Limit {
+        node: 1,
+        outcome: 4,
+        limit: 1,
+    };
+    sheet.action_count = 1;
+    sheet.actions[0] = Action {
+        effect: 1,
+        max_attempts: 2,
+    };
+    sheet.declared_count = 1;
+    sheet.declared[0] = Declared {
+        action: 0,
+        outcome: 0,
+    };
+    sheet
+}
+
+/// Microstep limit 130, ceilings 64, command and operation limits 10, time 0, one value of 0 operations.
+pub fn call(workflow: &Workflow, state: Option<&State>, event: Event) -> Call {
+    let sequence = state.map_or(0, |state| state.last_sequence) + 1;
+    let value = Mapping {
+        kind: 1,
+        value: value_of(sequence),
+        ..Mapping::default()
+    };
+    Call {
+        ceilings: Ceilings {
+            nodes: 64,
+            visits: 64,
+            activations: 64,
+            attempts: 64,
+        },
+        limits: Limits {
+            microsteps: 130,
+            commands: 10,
+            operations: 10,
+        },
+        workflow: workflow.clone(),
+        state: state.cloned(),
+        event: Event {
+            sequence,
+            event_id: event_id_of(sequence),
+            ..event
+        },
+        mappings: Mappings {
+            count: 1,
+            answers: [value, Mapping::default()],
+        },
+    }
+}
+
+fn value_of(sequence: u64) -> u32 {
+    500 + sequence as u32
+}
+
+fn event_id_of(sequence: u64) -> u32 {
+    1000 + sequence as u32
+}
+
+pub fn start() -> Event {
+    Event {
+        kind: 1,
+        input: INPUT,
+        ..Event::default()
+    }
+}
+
+pub fn signal(signal: u32, outcome: u32) -> Event {
+    Event {
+        kind: 2,
+        signal,
+        outcome,
+        data: DATA,
+        ..Event::default()
+    }
+}
+
+pub fn result(node: u32, visit: u32, attempt: u32, status: u32) -> Event {
+    Event {
+        kind: 3,
+        node,
+        visit,
+        attempt,
+        status,
+        outcome: NONE,
+        output: OUTPUT,
+        ..Event::default()
+    }
+}
+
+fn next(
+    state: &State,
+    orders: Vec<Order>,
+    notes: Vec<Note>,
+    endings: Vec<Ending>,
+    microsteps: u32,
+) -> Answer {
+    Answer::Next {
+        state: Box::new(state.clone()),
+        orders,
+        notes,
+        endings,
+        microsteps,
+    }
+}
+
+fn refused(number: u32, item: u32) -> Answer {
+    Answer::Refused { number, item }
+}
+
+fn schedule(visit: u32, input: u32) -> Order {
+    Order::Schedule {
+        node: 0,
+        visit,
+        action: 0,
+        attempt: 1,
+        not_before: 0,
+        input,
+        params: None,
+    }
+}
+
+fn note(code: u32, node: u32, a: u32, b: u32, c: u32) -> Note {
+    Note {
+        code,
+        node,
+        a,
+        b,
+        c,
+    }
+}
+
+fn ending(sequence: u64, ending: u32) -> Ending {
+    Ending { sequence, ending }
+}
+
+/// Puts the run at node 0, scheduled.
+fn at_0(state: &mut State, visit: u32, input: u32) {
+    state.status = 1;
+    state.position = Position { node: 0, visit };
+    state.invocation = InvocationState {
+        phase: 1,
+        node: 0,
+        visit,
+        action: 0,
+        attempt: 1,
+        input,
+        error: None,
+    };
+    state.visits[0] = visit;
+    state.activations += 1;
+    state.last_sequence += 1;
+}
+
+/// Puts the run at node 1, waiting, after a success.
+fn at_1(state: &mut State, visit: u32) {
+    state.status = 2;
+    state.results[0] = NodeResult {
+        visit,
+        outcome: 0,
+        output: Output::Handle(OUTPUT),
+    };
+    state.position = Position { node: 1, visit };
+    state.invocation = InvocationState::NONE;
+    state.visits[1] = visit;
+    state.activations += 1;
+    state.last_sequence += 1;
+}
+
+fn taken(state: &mut State, visit: u32, outcome: u32) {
+    state.results[1] = NodeResult {
+        visit,
+        outcome,
+        output: Output::Handle(DATA),
+    };
+}
+
+pub fn cases() -> Vec<Case> {
+    let sheet = sheet();
+    let mut cases = Vec::new();
+    let mut add = |name, call: Call, expected| {
+        cases.push(Case {
+            name,
+            call,
+            expected,
+        })
+    };
+
+    let mut first = State::fresh(INPUT);
+    at_0(&mut first, 1, 501);
+    add(
+        "1: start schedules 0, visit 1, attempt 1",
+        call(&sheet, None, start()),
+        next(&first, vec![schedule(1, 501)], vec![], vec![], 1),
+    );
+
+    let mut second = first.clone();
+    at_1(&mut second, 1);
+    add(
+        "2: success leads to waiting at 1, visit 1",
+        call(&sheet, Some(&first), result(0, 1, 1, 1)),
+        next(&second, vec![], vec![], vec![], 1),
+    );
+
+    let mut third = second.clone();
+    taken(&mut third, 1, 4);
+    third.streaks[1] = Streak {
+        outcome: 4,
+        count: 1,
+    };
+    at_0(&mut third, 2, 503);
+    let third_call = call(&sheet, Some(&second), signal(5, 4));
+    let third_answer = next(
+        &third,
+        vec![schedule(2, 503)],
+        vec![],
+        vec![ending(3, 1)],
+        2,
+    );
+    add(
+        "3: signal 5 with 4: streak 1, 0 visit 2",
+        third_call.clone(),
+        third_answer.clone(),
+    );
+
+    let mut fourth = third.clone();
+    at_1(&mut fourth, 2);
+    let fourth_call = call(&sheet, Some(&fourth), signal(5, 4));
+    let mut failed = fourth.clone();
+    taken(&mut failed, 2, 4);
+    failed.streaks[1] = Streak::default();
+    failed.visits[3] = 1;
+    failed.activations += 1;
+    failed.last_sequence += 1;
+    failed.status = 5;
+    failed.position = Position::NONE;
+    failed.result = Output::Error(ErrorInfo {
+        code: CODE,
+        node: 3,
+        detail: DETAIL,
+    });
+    add(
+        "4: again after success",
+        call(&sheet, Some(&third), result(0, 2, 1, 1)),
+        next(&fourth, vec![], vec![], vec![], 1),
+    );
+    add(
+        "4: node 3, failed, note 9, outcome 4 kept, no streak",
+        fourth_call,
+        next(
+            &failed,
+            vec![],
+            vec![note(9, 1, 4, 1, 0)],
+            vec![ending(5, 1)],
+            2,
+        ),
+    );
+
+    let mut tight = third_call.clone();
+    tight.limits.microsteps = 1;
+    add("5: case 3 at limit 1", tight.clone(), refused(26, NONE));
+    tight.limits.microsteps = 2;
+    add("5: case 3 at limit 2", tight, third_answer);
+
+    let mut waiting = second.clone();
+    waiting.last_sequence += 1;
+    add(
+        "6: signal 5 with 3: note 5, still waiting",
+        call(&sheet, Some(&second), signal(5, 3)),
+        next(
+            &waiting,
+            vec![],
+            vec![note(5, 1, event_id_of(3), 3, 0)],
+            vec![ending(3, 2)],
+            1,
+        ),
+    );
+
+    let mut parked = first.clone();
+    parked.status = 3;
+    parked.invocation.phase = 2;
+    parked.last_sequence += 1;
+    add(
+        "7: status 3 parks",
+        call(&sheet, Some(&first), result(0, 1, 1, 3)),
+        next(&parked, vec![], vec![note(6, 0, 1, 1, 3)], vec![], 0),
+    );
+    let mut stale = parked.clone();
+    stale.last_sequence += 1;
+    add(
+        "7: the same result next: note 2",
+        call(&sheet, Some(&parked), result(0, 1, 1, 3)),
+        next(&stale, vec![], vec![note(2, 0, 0, 1, 1)], vec![], 0),
+    );
+
+    let mut retried = first.clone();
+    retried.invocation.attempt = 2;
+    retried.last_sequence += 1;
+    let retryable = Event {
+        retryable: true,
+        delay: MOST,
+        ..result(0, 1, 1, 2)
+    };
+    let retry = Order::Retry {
+        node: 0,
+        visit: 1,
+        attempt: 2,
+        not_before: MOST,
+    };
+    add(
+        "8: retryable failure, delay 2^63 - 1, time 0",
+        call(&sheet, Some(&first), retryable),
+        next(&retried, vec![retry], vec![note(8, 0, 2, 0, 0)], vec![], 0),
+    );
+    let later = Event {
+        accepted_at: 1,
+        ..retryable
+    };
+    add(
+        "8: the same at time 1",
+        call(&sheet, Some(&first), later),
+        refused(27, NONE),
+    );
+
+    let mut stuck = first.clone();
+    stuck.status = 3;
+    stuck.invocation.phase = 3;
+    stuck.invocation.error = Some(ErrorInfo {
+        code: 5,
+        node: 0,
+        detail: 0,
+    });
+    stuck.last_sequence += 1;
+    add(
+        "9: failure not retryable: stuck",
+        call(&sheet, Some(&first), result(0, 1, 1, 2)),
+        next(&stuck, vec![], vec![note(7, 0, 1, 1, 5)], vec![], 0),
+    );
+
+    let mut idle = call(&sheet, None, start());
+    idle.limits.commands = 0;
+    add("10: start with command limit 0", idle, refused(29, NONE));
+
+    let mut limited = call(&sheet, None, start());
+    limited.workflow.limits[0].limit = 2;
+    add(
+        "11: limit 2 on outcome 4",
+        limited.clone(),
+        next(&first, vec![schedule(1, 501)], vec![], vec![], 1),
+    );
+    limited.workflow.limits[0].limit = 3;
+    add("11: limit 3 on outcome 4", limited, refused(12, 1));
+
+    let mut full = second.clone();
+    for i in 0..64 {
+        full.last_sequence += 1;
+        full.signals[i] = BufferedSignal {
+            sequence: full.last_sequence,
+            event_id: event_id_of(full.last_sequence),
+            signal: 6,
+            outcome: NONE,
+            data: DATA,
+        };
+    }
+    full.signal_count = 64;
+    let mut completed = full.clone();
+    completed.last_sequence += 1;
+    taken(&mut completed, 1, 1);
+    completed.visits[2] = 1;
+    completed.activations += 1;
+    completed.status = 4;
+    completed.position = Position::NONE;
+    completed.result = Output::Handle(567);
+    add(
+        "12: full store: a matching arrival is taken",
+        call(&sheet, Some(&full), signal(5, NONE)),
+        next(&completed, vec![], vec![], vec![ending(67, 1)], 2),
+    );
+    let mut dropped = full.clone();
+    dropped.last_sequence += 1;
+    add(
+        "12: full store: signal 6 gets note 4",
+        call(&sheet, Some(&full), signal(6, NONE)),
+        next(
+            &dropped,
+            vec![],
+            vec![note(4, NONE, event_id_of(67), 0, 0)],
+            vec![ending(67, 3)],
+            0,
+        ),
+    );
+    cases
+}

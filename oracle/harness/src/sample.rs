@@ -1,0 +1,251 @@
+//! The sample: calls of the generator with the original's answers, in the lines of `docs/NUMBERS.md`.
+
+use std::collections::{BTreeMap, BTreeSet};
+use std::fs;
+use std::path::PathBuf;
+
+use calls::{numbers, Answer, Call, Workflow};
+
+use crate::counts::{keys, required, Counts};
+use crate::history::Generator;
+use crate::plain_answer;
+
+/// Calls of the generator that are looked at.
+const TRIED: usize = 300_000;
+/// Bytes of the sample at most.
+const SIZE: usize = 2_000_000;
+/// Calls with the same course at most, of those that are taken along because their sheet is there already.
+const ALIKE: usize = 3;
+/// Bytes of a group at most, and of one that shows what only a full store can.
+const SHORT: usize = 1_500;
+const LONG: usize = 9_000;
+/// Bytes at most of a group that is taken along.
+const CHEAP: usize = 700;
+
+fn folder() -> PathBuf {
+    PathBuf::from(env!("CARGO_MANIFEST_DIR")).join("../sample")
+}
+
+/// What a call shows, and what course it takes.
+struct Shown {
+    keys: Vec<String>,
+    course: String,
+}
+
+fn shown(call: &Call, answer: &Answer) -> Shown {
+    let mut keys = keys(call, answer);
+    if let Answer::Refused { number, item } = answer {
+        keys.push(format!("refusal {number} item {item}"));
+    }
+    let status = call.state.as_ref().map_or(0, |state| state.status);
+    let course = format!(
+        "{} {status} {} {} {keys:?}",
+        call.workflow.format, call.event.kind, call.event.status
+    );
+    Shown { keys, course }
+}
+
+/// Numbers that the fields of an event or a record can hold: names 8 bits, error codes 16.
+fn in_range(call: &Call) -> bool {
+    let event = &call.event;
+    let names = [event.signal, event.outcome, event.node];
+    let codes = [
+        event.code,
+        call.mappings.answers[0].code,
+        call.mappings.answers[1].code,
+    ];
+    let state = call.state.as_ref().map_or(true, state_in_range);
+    state && names.iter().all(|name| *name <= 255) && codes.iter().all(|code| *code <= 65535)
+}
+
+fn state_in_range(state: &calls::State) -> bool {
+    let error = |error: &calls::ErrorInfo| error.code <= 65535 && error.node <= 255;
+    let output = |output: &calls::Output| match output {
+        calls::Output::Error(it) => error(it),
+        _ => true,
+    };
+    let invocation = &state.invocation;
+    state.position.node <= 255
+        && invocation.node <= 255
+        && invocation.action <= 255
+        && invocation.error.as_ref().map_or(true, error)
+        && output(&state.result)
+        && state
+            .signals
+            .iter()
+            .all(|s| s.signal <= 255 && s.outcome <= 255)
+        && state.streaks.iter().all(|s| s.outcome <= 255)
+        && state
+            .results
+            .iter()
+            .all(|r| r.outcome <= 255 && output(&r.output))
+}
+
+/// How often a call is to show something.
+fn quota(key: &str) -> usize {
+    match key {
+        "65 notes" | "65 endings" | "microsteps 130" | "microsteps 65 to 129" => 4,
+        "note 4" | "ending 3" => 20,
+        _ if key.contains(" item ") => 6,
+        _ => 40,
+    }
+}
+
+/// What only a full store can show.
+fn is_long(key: &str) -> bool {
+    quota(key) < 40 && !key.contains(" item ")
+}
+
+/// The generator's calls with the original's answers, in their order.
+fn each_call(seed: u64, mut take: impl FnMut(usize, &Call, &Answer)) {
+    let mut generator = Generator::new(seed);
+    for n in 0..TRIED {
+        let call = generator.call();
+        let answer = original::answer_fast(&call);
+        if in_range(&call) {
+            take(n, &call, &answer);
+        }
+        generator.answered(&call, &answer);
+    }
+}
+
+fn length(call: &Call, answer: &Answer, before: Option<&Workflow>) -> usize {
+    let mut group = String::new();
+    match numbers::write_group(&mut group, call, answer, before) {
+        true => group.len(),
+        false => usize::MAX,
+    }
+}
+
+/// The calls that show something not yet shown often enough, and how many bytes they take at most.
+fn choose(seed: u64) -> (BTreeSet<usize>, usize) {
+    let mut chosen = BTreeSet::new();
+    let mut bytes = 0;
+    let mut seen: BTreeMap<String, usize> = BTreeMap::new();
+    each_call(seed, |n, call, answer| {
+        let shown = shown(call, answer);
+        let needed = |key: &&String| seen.get(*key).copied().unwrap_or(0) < quota(key);
+        let needed: Vec<&String> = shown.keys.iter().filter(needed).collect();
+        if needed.is_empty() {
+            return;
+        }
+        let most = match needed.iter().any(|key| is_long(key)) {
+            true => LONG,
+            false => SHORT,
+        };
+        let length = length(call, answer, None);
+        if length > most {
+            return;
+        }
+        chosen.insert(n);
+        bytes += length;
+        for key in shown.keys {
+            *seen.entry(key).or_default() += 1;
+        }
+    });
+    (chosen, bytes)
+}
+
+#[derive(Default)]
+struct Sample {
+    text: String,
+    counts: Counts,
+    keys: BTreeMap<String, usize>,
+}
+
+/// Writes the chosen calls, and takes others along that share a sheet with the call before.
+fn collect(seed: u64) -> Sample {
+    let (chosen, bytes) = choose(seed);
+    let mut room = SIZE.saturating_sub(bytes);
+    let mut sample = Sample::default();
+    let mut before: Option<Workflow> = None;
+    let mut courses: BTreeMap<String, usize> = BTreeMap::new();
+    each_call(seed, |n, call, answer| {
+        let shown = shown(call, answer);
+        let course = courses.entry(shown.course).or_default();
+        if !chosen.contains(&n) {
+            let length = length(call, answer, before.as_ref());
+            let shared = before.as_ref() == Some(&call.workflow);
+            if !shared || *course >= ALIKE || length > CHEAP.min(room) {
+                return;
+            }
+            room -= length;
+        }
+        *course += 1;
+        numbers::write_group(&mut sample.text, call, answer, before.as_ref());
+        before = Some(call.workflow.clone());
+        sample.counts.count(call, answer);
+        for key in shown.keys {
+            *sample.keys.entry(key).or_default() += 1;
+        }
+    });
+    sample
+}
+
+pub fn write(seed: u64) -> Result<bool, String> {
+    let sample = collect(seed);
+    let path = folder().join("calls.txt");
+    fs::write(&path, &sample.text).map_err(|why| format!("{path:?}: {why}"))?;
+    let path = folder().join("README.md");
+    fs::write(&path, readme(seed, &sample)).map_err(|why| format!("{path:?}: {why}"))?;
+    println!("{}", sample.counts.table());
+    println!("{} calls, {} bytes", sample.counts.calls, sample.text.len());
+    for key in required() {
+        let count = sample.counts.of(&key);
+        if count < 20 {
+            println!("shown {count} times: {key}");
+        }
+    }
+    Ok(sample.counts.missing().is_empty() && read()?)
+}
+
+fn readme(seed: u64, sample: &Sample) -> String {
+    let mut items: BTreeMap<u32, Vec<String>> = BTreeMap::new();
+    for key in sample.keys.keys() {
+        let words: Vec<&str> = key.split(' ').collect();
+        if let ["refusal", number, "item", item] = words[..] {
+            let number = number.parse().unwrap_or(0);
+            items.entry(number).or_default().push(item.to_string());
+        }
+    }
+    let mut table = String::from("| Refusal | Items |\n|---|---|\n");
+    for (number, items) in items {
+        let mut items: Vec<u32> = items.iter().filter_map(|item| item.parse().ok()).collect();
+        items.sort();
+        let items: Vec<String> = items.iter().map(u32::to_string).collect();
+        table.push_str(&format!("| {number} | {} |\n", items.join(" ")));
+    }
+    format!(
+        "# The sample\n\n\
+        `calls.txt` holds {} calls with the original's answers, in the lines of `docs/NUMBERS.md` ({} bytes).\n\n\
+        Made by `oracle/target/release/harness sample {seed}` after `sh oracle/build`: the generator's calls of that\n\
+        seed, the directed calls first (Joint A, 130 microsteps, 65 notes, 65 endings), each answered by the\n\
+        original. Of {TRIED} calls those were chosen that show something not yet shown often enough (40 times for most\n\
+        things), short ones only where that can be; and further calls on the same sheets were taken along. Calls\n\
+        whose event or record holds a number that its field can't (names above 255, error codes above 65535) are\n\
+        left out; sheets with such\n\
+        numbers are in. The same seed gives the same bytes. `harness read-sample` reads it back and compares it with\n\
+        the original and the plain reading.\n\n\
+        ## What it covers\n\n\
+        A call counts once in each row that it shows.\n\n{}\n## Items of the refusals\n\n{table}",
+        sample.counts.calls,
+        sample.text.len(),
+        sample.counts.table(),
+    )
+}
+
+/// Reads the sample back and compares it with both.
+pub fn read() -> Result<bool, String> {
+    let path = folder().join("calls.txt");
+    let text = fs::read_to_string(&path).map_err(|why| format!("{path:?}: {why}"))?;
+    let (mut calls, mut differences) = (0, 0);
+    for group in numbers::Groups::new(&text) {
+        let (call, answer) = group?;
+        calls += 1;
+        for found in [original::answer(&call), plain_answer(&call)] {
+            differences += usize::from(found != answer);
+        }
+    }
+    println!("sample: {calls} calls read, {differences} differences");
+    Ok(differences == 0)
+}
