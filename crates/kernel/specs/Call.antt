@@ -10,7 +10,7 @@ use Rattle.workflow.specs.View.{Workflow}
 use Rattle.workflow.specs.declared.Ceilings.{Ceilings}
 use Rattle.graph.specs.declared.Verdict.{Verdict}
 use Rattle.graph.specs.declared.Verdict.the-variants.{Fine, Broken}
-use Rattle.graph.specs.Verdict.{verdict}
+use Rattle.graph.specs.Verdict.{rule, first-broken, verdict}
 use Rattle.model.specs.declared.State.{State}
 use Rattle.model.specs.declared.event.Event.{Event}
 use Rattle.model.specs.declared.event.Mapping.{Mapping}
@@ -86,36 +86,35 @@ finish-by Consume l x = refused 0 none
 abbrev pub finish : Limits → Machine → Answer
 finish l x = finish-by (x .next) l x
 
+-- THE RECORD. Start without record: 22 if sequence isn't 1; other without record: 23; start with record: 24; else 25 run check, then 22 if not last + 1.
+abbrev pub is-start : Call → Bool
+is-start c = eqb (c .event .kind) run-started
+
+unfoldable pub record-stage : Workflow → Call → Last → Verdict
+record-stage f c no-record = first-broken (rule 23 (is-start c) ∷ rule 22 (eqb (c .event .sequence) 1) ∷ [])
+record-stage f c (last s) =
+    first-broken (rule 24 (not (is-start c)) ∷ rule 25 (consistent f s) ∷ rule 22 (eqb (c .event .sequence) (s .«last_sequence» + 1)) ∷ [])
+
+-- The stages before the step, in their order.
+unfoldable pub admission : Workflow → Last → Call → Verdict
+admission f r c = first-broken (verdict f (c .ceilings) ∷ rule 21 (event-fits (c .event) (c .mappings)) ∷ record-stage f c r ∷ [])
+
+-- The record that a step starts at.
+abbrev pub given : Last → Call → State
+given no-record c = fresh (c .event .input)
+given (last s) c = s
+
 -- A call is turned away before its step, or comes to it.
 pub data Course : Type 0 where
   away : (number item : ℕ) → Course
   stepped : Machine → Course
 
-module _ (f : Workflow) where
-  abbrev pub step : Call → State → Course
-  step c s = stepped (driven f (c .limits .microsteps) (c .event) (c .mappings) s)
+unfoldable pub course-by : Verdict → Workflow → Last → Call → Course
+course-by (Broken k i) f r c = away k i
+course-by Fine f r c = stepped (driven f (c .limits .microsteps) (c .event) (c .mappings) (given r c))
 
-  -- Start without record: 22 if sequence isn't 1; other without record: 23; start with record: 24; else 25 run check, then 22 if not last + 1.
-  unfoldable pub record-stage : Call → Last → Course
-  record-stage c no-record =
-      if not (eqb (c .event .kind) run-started) then away 23 none else
-      if not (eqb (c .event .sequence) 1) then away 22 none else
-      step c (fresh (c .event .input))
-  record-stage c (last s) =
-      if eqb (c .event .kind) run-started then away 24 none else
-      if not (consistent f s) then away 25 none else
-      if not (eqb (c .event .sequence) (s .«last_sequence» + 1)) then away 22 none else
-      step c s
-
-  unfoldable pub event-stage : Call → Last → Course
-  event-stage c r = if event-fits (c .event) (c .mappings) then record-stage c r else away 21 none
-
-  unfoldable pub sheet-stage : Verdict → Call → Last → Course
-  sheet-stage (Broken k i) c r = away k i
-  sheet-stage Fine c r = event-stage c r
-
-  unfoldable pub course : Last → Call → Course
-  course r c = sheet-stage (verdict f (c .ceilings)) c r
+abbrev pub course : Workflow → Last → Call → Course
+course f r c = course-by (admission f r c) f r c
 
 unfoldable pub conclude : Limits → Course → Answer
 conclude l (away k i) = refused k i

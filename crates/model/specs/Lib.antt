@@ -4,3 +4,6 @@ pub mod Store
 pub mod Answers
 pub mod Step
 pub mod Check
+pub mod Counts
+pub mod TidyLists
+pub mod Tidy

@@ -167,9 +167,25 @@ fn wrong_seed(seed: u64, calls: u64, readings: &[wrong::Reading]) -> Vec<Option<
 }
 
 /// Whether a wrong reading answers like the original; one that gives up doesn't.
-fn answers(reading: &wrong::Reading, call: &Call, right: &Answer) -> bool {
+pub fn answers(reading: &wrong::Reading, call: &Call, right: &Answer) -> bool {
     let answer = catch_unwind(AssertUnwindSafe(|| (reading.answer)(call)));
     answer.is_ok_and(|answer| answer == *right)
+}
+
+/// The lines of calls and answers; where some are marked, only those.
+fn recorded_lines(content: &str) -> Vec<&str> {
+    let lines: Vec<&str> = content.lines().map(str::trim).collect();
+    let marked: Vec<&str> = lines
+        .iter()
+        .filter_map(|line| line.strip_prefix("< ").or(line.strip_prefix("> ")))
+        .collect();
+    if !marked.is_empty() {
+        return marked;
+    }
+    lines
+        .into_iter()
+        .filter(|line| !line.is_empty() && !line.starts_with('#'))
+        .collect()
 }
 
 /// Recorded calls and answers in text form: a call line, then its answer line, plain or marked < and >.
@@ -177,13 +193,7 @@ pub fn recorded(files: &[String]) -> Result<bool, String> {
     let mut good = true;
     for file in files {
         let content = std::fs::read_to_string(file).map_err(|why| format!("{file}: {why}"))?;
-        let mut lines = content.lines().map(str::trim).filter_map(|line| {
-            let marked = line.strip_prefix("< ").or(line.strip_prefix("> "));
-            let plain = line
-                .starts_with(|c: char| c.is_ascii_digit())
-                .then_some(line);
-            marked.or(plain)
-        });
+        let mut lines = recorded_lines(&content).into_iter();
         let (mut read, mut differences) = (0, 0);
         while let (Some(call), Some(answer)) = (lines.next(), lines.next()) {
             let call = text::parse_call(call).map_err(|why| format!("{file}: {why:?}"))?;

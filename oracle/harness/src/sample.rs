@@ -5,22 +5,25 @@ use std::fs;
 use std::path::PathBuf;
 
 use calls::{numbers, Answer, Call, Workflow};
+use wrong::Reading;
 
 use crate::counts::{keys, required, Counts};
 use crate::history::Generator;
-use crate::plain_answer;
+use crate::{compare, joint, plain_answer};
 
 /// Calls of the generator that are looked at.
 const TRIED: usize = 300_000;
 /// Bytes of the sample at most.
 const SIZE: usize = 2_000_000;
 /// Calls with the same course at most, of those that are taken along because their sheet is there already.
-const ALIKE: usize = 3;
+const ALIKE: usize = 4;
 /// Bytes of a group at most, and of one that shows what only a full store can.
-const SHORT: usize = 1_500;
+const SHORT: usize = 1_000;
 const LONG: usize = 9_000;
+/// Calls that each wrong reading answers wrongly, at least.
+const TELLING: usize = 4;
 /// Bytes at most of a group that is taken along.
-const CHEAP: usize = 700;
+const CHEAP: usize = 600;
 
 fn folder() -> PathBuf {
     PathBuf::from(env!("CARGO_MANIFEST_DIR")).join("../sample")
@@ -86,14 +89,15 @@ fn quota(key: &str) -> usize {
     match key {
         "65 notes" | "65 endings" | "microsteps 130" | "microsteps 65 to 129" => 4,
         "note 4" | "ending 3" => 20,
-        _ if key.contains(" item ") => 6,
-        _ => 40,
+        "refusal 20, no item" | "refusal 25, no item" => 150,
+        _ if key.contains(" item ") => 5,
+        _ => 36,
     }
 }
 
 /// What only a full store can show.
 fn is_long(key: &str) -> bool {
-    quota(key) < 40 && !key.contains(" item ")
+    quota(key) <= 20 && !key.contains(" item ")
 }
 
 /// The generator's calls with the original's answers, in their order.
@@ -117,33 +121,48 @@ fn length(call: &Call, answer: &Answer, before: Option<&Workflow>) -> usize {
     }
 }
 
-/// The calls that show something not yet shown often enough, and how many bytes they take at most.
+/// The calls that show something not yet shown often enough, and how many bytes they take.
 fn choose(seed: u64) -> (BTreeSet<usize>, usize) {
     let mut chosen = BTreeSet::new();
     let mut bytes = 0;
+    let mut before: Option<Workflow> = None;
     let mut seen: BTreeMap<String, usize> = BTreeMap::new();
+    let readings = wrong::readings();
+    let mut told = vec![0; readings.len()];
+    let joint = joint::cases().len();
     each_call(seed, |n, call, answer| {
         let shown = shown(call, answer);
         let needed = |key: &&String| seen.get(*key).copied().unwrap_or(0) < quota(key);
         let needed: Vec<&String> = shown.keys.iter().filter(needed).collect();
-        if needed.is_empty() {
-            return;
-        }
-        let most = match needed.iter().any(|key| is_long(key)) {
+        let most = match needed.iter().any(|key| is_long(key)) || n < joint {
             true => LONG,
             false => SHORT,
         };
-        let length = length(call, answer, None);
-        if length > most {
+        if length(call, answer, None) > most {
             return;
         }
+        let tells = tells(&readings, &told, call, answer);
+        if needed.is_empty() && tells.is_empty() && n >= joint {
+            return;
+        }
+        for reading in tells {
+            told[reading] += 1;
+        }
         chosen.insert(n);
-        bytes += length;
+        bytes += length(call, answer, before.as_ref());
+        before = Some(call.workflow.clone());
         for key in shown.keys {
             *seen.entry(key).or_default() += 1;
         }
     });
     (chosen, bytes)
+}
+
+/// The wrong readings that answer this call wrongly, of those that few calls told of.
+fn tells(readings: &[Reading], told: &[usize], call: &Call, answer: &Answer) -> Vec<usize> {
+    (0..readings.len())
+        .filter(|i| told[*i] < TELLING && !compare::answers(&readings[*i], call, answer))
+        .collect()
 }
 
 #[derive(Default)]
@@ -183,6 +202,7 @@ fn collect(seed: u64) -> Sample {
 }
 
 pub fn write(seed: u64) -> Result<bool, String> {
+    std::panic::set_hook(Box::new(|_| {}));
     let sample = collect(seed);
     let path = folder().join("calls.txt");
     fs::write(&path, &sample.text).map_err(|why| format!("{path:?}: {why}"))?;
@@ -220,16 +240,17 @@ fn readme(seed: u64, sample: &Sample) -> String {
         `calls.txt` holds {} calls with the original's answers, in the lines of `docs/NUMBERS.md` ({} bytes).\n\n\
         Made by `oracle/target/release/harness sample {seed}` after `sh oracle/build`: the generator's calls of that\n\
         seed, the directed calls first (Joint A, 130 microsteps, 65 notes, 65 endings), each answered by the\n\
-        original. Of {TRIED} calls those were chosen that show something not yet shown often enough (40 times for most\n\
-        things), short ones only where that can be; and further calls on the same sheets were taken along. Calls\n\
-        whose event or record holds a number that its field can't (names above 255, error codes above 65535) are\n\
-        left out; sheets with such\n\
-        numbers are in. The same seed gives the same bytes. `harness read-sample` reads it back and compares it with\n\
-        the original and the plain reading.\n\n\
+        original. Of {TRIED} calls those were chosen that show something not yet shown often enough ({} times for most\n\
+        things) or that one of the wrong readings of `oracle/wrong/edits` answers wrongly and fewer than {TELLING} calls\n\
+        before, short ones where that can be; and further calls on the same sheets were taken along. Calls whose\n\
+        event or record holds a number that its field can't (names above 255, error codes above 65535) are left out;\n\
+        sheets with such numbers are in. The same seed gives the same bytes. `harness read-sample` reads it back,\n\
+        compares it with the original and the plain reading, and counts the wrong readings that it finds.\n\n\
         ## What it covers\n\n\
         A call counts once in each row that it shows.\n\n{}\n## Items of the refusals\n\n{table}",
         sample.counts.calls,
         sample.text.len(),
+        quota(""),
         sample.counts.table(),
     )
 }
@@ -238,14 +259,26 @@ fn readme(seed: u64, sample: &Sample) -> String {
 pub fn read() -> Result<bool, String> {
     let path = folder().join("calls.txt");
     let text = fs::read_to_string(&path).map_err(|why| format!("{path:?}: {why}"))?;
+    let readings = wrong::readings();
+    let mut told = vec![0; readings.len()];
     let (mut calls, mut differences) = (0, 0);
     for group in numbers::Groups::new(&text) {
         let (call, answer) = group?;
         calls += 1;
+        for reading in tells(&readings, &told, &call, &answer) {
+            told[reading] += 1;
+        }
         for found in [original::answer(&call), plain_answer(&call)] {
             differences += usize::from(found != answer);
         }
     }
     println!("sample: {calls} calls read, {differences} differences");
+    for (reading, told) in readings.iter().zip(&told) {
+        if *told < TELLING {
+            println!("found by {told} calls: {}", reading.about);
+        }
+    }
+    let found = told.iter().filter(|told| **told > 0).count();
+    println!("{found} of {} wrong readings found", readings.len());
     Ok(differences == 0)
 }
