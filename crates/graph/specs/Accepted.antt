@@ -54,7 +54,7 @@ the-first (Fine ∷ vs) k i e =
 the-first (Broken j h ∷ vs) k i e = record { before = []; after = vs; parts = ap (λ v. v ∷ vs) e; fine = tt }
 
 -- A stage that is fine.
-rule-fine : (k : ℕ) (b : Bool) → rule k b ≡ Fine → b ≡ true
+pub rule-fine : (k : ℕ) (b : Bool) → rule k b ≡ Fine → b ≡ true
 unfolding if_then_else_
 rule-fine k true e = refl
 rule-fine k false e = never e

@@ -2,3 +2,6 @@ pub mod Drive
 pub mod Call
 pub mod Demand3
 pub mod Joint
+pub mod Held
+pub mod Hold
+pub mod Whole

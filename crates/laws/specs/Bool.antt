@@ -48,3 +48,9 @@ pub if-false : {A : Type 0} (b : Bool) (x y : A) → b ≡ false → (if b then 
 unfolding if_then_else_
 if-false true x y e = absurd (false≢true (sym e))
 if-false false x y e = refl
+
+-- What holds of both sides, by the value of the test.
+pub either : {A : Type 0} (P : A → Type 0) (b : Bool) {x y : A} → (b ≡ true → P x) → (b ≡ false → P y) → P (if b then x else y)
+unfolding if_then_else_
+either P true f g = f refl
+either P false f g = g refl

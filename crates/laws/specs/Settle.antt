@@ -14,7 +14,8 @@ settle go step (suc k) x = if go x then settle go step k (step x) else x
 pub record Settling {A : Type 0} (go : A → Bool) (step : A → A) (w : A) (k : ℕ) (x : A) : Type 0 where
   pub left : settle go step k x ≡ w
 
-settle-rests : {A : Type 0} (go : A → Bool) (step : A → A) (k : ℕ) (x : A) → go x ≡ false → settle go step k x ≡ x
+-- nothing is next
+pub settle-rests : {A : Type 0} (go : A → Bool) (step : A → A) (k : ℕ) (x : A) → go x ≡ false → settle go step k x ≡ x
 unfolding settle if_then_else_
 settle-rests go step zero x h = refl
 settle-rests go step (suc k) x h = rw h

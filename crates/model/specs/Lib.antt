@@ -7,3 +7,5 @@ pub mod Check
 pub mod Counts
 pub mod TidyLists
 pub mod Tidy
+pub mod Cost
+pub mod Keep

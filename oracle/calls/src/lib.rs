@@ -284,7 +284,10 @@ pub enum Answer {
 }
 
 impl Position {
-    pub const NONE: Position = Position { node: NONE, visit: 0 };
+    pub const NONE: Position = Position {
+        node: NONE,
+        visit: 0,
+    };
 }
 
 impl InvocationState {

@@ -107,7 +107,7 @@ fn compare_seed(seed: u64, calls: u64, fast: bool) -> (Counts, u64) {
     (counts, differences)
 }
 
-/// After how many calls each wrong reading parts from the original.
+/// After how many random calls each wrong reading parts from the original.
 pub fn wrong(seeds: &[u64], calls: u64) -> bool {
     let readings = wrong::readings();
     std::panic::set_hook(Box::new(|_| {}));
@@ -148,7 +148,7 @@ pub fn wrong(seeds: &[u64], calls: u64) -> bool {
 }
 
 fn wrong_seed(seed: u64, calls: u64, readings: &[wrong::Reading]) -> Vec<Option<u64>> {
-    let mut generator = Generator::new(seed);
+    let mut generator = Generator::random(seed);
     let mut first: Vec<Option<u64>> = vec![None; readings.len()];
     for n in 1..=calls {
         let call = generator.call();

@@ -23,12 +23,21 @@ pub struct Generator {
 }
 
 impl Generator {
+    /// The directed calls, then random ones.
     pub fn new(seed: u64) -> Generator {
         let mut directed = directed::calls();
         directed.reverse();
         Generator {
-            rng: Rng::new(seed),
             directed,
+            ..Generator::random(seed)
+        }
+    }
+
+    /// Random calls alone.
+    pub fn random(seed: u64) -> Generator {
+        Generator {
+            rng: Rng::new(seed),
+            directed: Vec::new(),
             workflow: Workflow::empty(),
             state: None,
             left: 0,
