@@ -20,10 +20,9 @@ use Rattle.model.specs.declared.answer.Order.{Order}
 use Rattle.model.specs.Code.{none, signal-received, activity-result}
 use Rattle.model.specs.Record.{no-visits, visits-of, is-terminal, seen, fresh}
 use Rattle.model.specs.Store.{stored}
-use Rattle.model.specs.Step.{applies, named}
 use Rattle.model.specs.Check.{consistent}
 use Rattle.model.specs.Counts.{is-it, times, total, Counts, plain}
-use Rattle.model.specs.Keep.{base, heard, opens, rise, Owner, Ready, nothing, Lives, Standing, gone, anew, stays, Stands, New, Ordering}
+use Rattle.model.specs.Keep.{base, heard, opens, rise, Heard, heard-is, Ready, nothing, Lives, Standing, gone, anew, stays, Stands, New, Ordering}
 use Rattle.kernel.specs.Call.{Accepted}
 use Rattle.kernel.specs.Demand3.{Done, Attempt, attempt, ordered-by, ordered, applied-by, applied, signals, ends, endings, dated, Same, Frozen}
 
@@ -174,53 +173,26 @@ module _ (f : Workflow) (ds : List Done) (s : State) (st : History f ds s) (e : 
   abbrev it : Attempt
   it = attempt (e .node) (e .visit) (e .attempt)
 
-  -- the attempt that a heard result names is the one that is open
-  record Heard : Type 0 where
-    node-is : e .node ≡ s .position .node
-    visit-is : e .visit ≡ visits-of s (e .node) .count
-    real : 1 ≤ e .visit
-    open-is : opens (s .invocation) ≡ e .attempt
-    rises : rise f s e ≡ 1
-
-  heard-is : heard f s e ≡ true → Heard
-  unfolding rise
-  heard-is h =
-      let y = both _ _ (both _ _ h .1) .1 in
-      let n = both _ _ y in
-      let k = both _ _ (n .1) in
-      let p = both _ _ (n .0) in
-      let w = both _ _ (p .1) in
-      let own = fact .ready .owner (not-true _ (p .0)) in
-      let en : s .invocation .node ≡ e .node = eqb-true _ _ (w .0) in
-      let ev : s .invocation .visit ≡ e .visit = eqb-true _ _ (w .1) in
-      record {
-        node-is = sym en ∙ own .same-node;
-        visit-is = sym ev ∙ own .same-visit ∙ ap (λ (j : ℕ). visits-of s j .count) (sym (own .same-node) ∙ en);
-        real = omega (arith, own .visited);
-        open-is = if-true _ _ _ (k .1) ∙ eqb-true _ _ (k .0);
-        rises = if-true _ _ _ h;
-      }
-
-  new-applied : Heard → Below (a .state) 1 (opens (a .state .invocation)) it
+  new-applied : Heard f s e → Below (a .state) 1 (opens (a .state .invocation)) it
   new-applied h =
       still-below 0 1 (opens (s .invocation)) (opens (a .state .invocation)) it (λ i j k. omega (arith, h .rises))
       (record { real = h .real; visited = omega (arith, h .visit-is); low = λ _ _. omega (arith, h .open-is) })
 
-  fresh-applied : Heard → (x : Attempt) → Below s 1 (opens (s .invocation)) x → it ≡ x → ⊥
+  fresh-applied : Heard f s e → (x : Attempt) → Below s 1 (opens (s .invocation)) x → it ≡ x → ⊥
   fresh-applied h x b y =
       let en : e .node ≡ x .node = ap (λ (z : Attempt). z .node) y in
       let ev : e .visit ≡ x .visit = ap (λ (z : Attempt). z .visit) y in
       let ek : e .attempt ≡ x .attempt = ap (λ (z : Attempt). z .attempt) y in
       omega (arith, b .low (sym ev ∙ h .visit-is ∙ ap (λ (j : ℕ). visits-of s j .count) en) (sym en ∙ h .node-is), h .open-is)
 
-  applied-if : (b : Bool) → (b ≡ true → Heard)
+  applied-if : (b : Bool) → (b ≡ true → Heard f s e)
       → Distinct ((if b then it ∷ [] else []) ++ applied ds) × All (Below (a .state) 1 (opens (a .state .invocation))) ((if b then it ∷ [] else []) ++ applied ds)
   unfolding if_then_else_
   applied-if true h = ((all-map _ _ (applied ds) (fresh-applied (h refl)) (st .below-applied), st .applied-once), (new-applied (h refl), old-applied))
   applied-if false h = (st .applied-once, old-applied)
 
   applied-now : Distinct (applied-by d ++ applied ds) × All (Below (a .state) 1 (opens (a .state .invocation))) (applied-by d ++ applied ds)
-  applied-now = applied-if _ (λ h. let g = both _ _ h in heard-is (fact .hears (g .0) (g .1)))
+  applied-now = applied-if _ (λ h. let g = both _ _ h in heard-is f s e (fact .ready) (fact .hears (g .0) (g .1)))
 
   -- SIGNALS
   abbrev arrives : ℕ → ℕ

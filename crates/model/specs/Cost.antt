@@ -4,7 +4,7 @@ use mathlib.Core.Bool.{Bool, true, false}
 use Prim.Native.Nat.{ℕ, _+_, _*_, _≤_, _<_}
 use native.Mathlib.Omega.{arith}
 use borrow.Author.Tests.{leb-false}
-use Rattle.laws.specs.Bool.{if_then_else_}
+use Rattle.laws.specs.Bool.{if_then_else_, either}
 use Rattle.workflow.specs.declared.Found.{Found}
 use Rattle.workflow.specs.declared.Found.the-variants.{At, Nothing}
 use Rattle.workflow.specs.View.{Workflow}
@@ -58,12 +58,6 @@ pub record Reacted (h : ℕ) (v : Move) : Type 0 where
   pub same : (v .next ≡ Rest → ⊥) → v .state .«signal_count» ≡ h
   pub quiet : v .next ≡ Take → (v .note ≡ no-note) × (v .ending ≡ no-ending)
 
--- What holds in both cases of a test.
-pub either : {A : Type 0} (P : A → Type 0) (b : Bool) {x y : A} → (b ≡ true → P x) → (b ≡ false → P y) → P (if b then x else y)
-unfolding if_then_else_
-either P true p q = p refl
-either P false p q = q refl
-
 -- A stored signal is removed.
 pub removed-count : (s : State) (i : ℕ) → s .«signal_count» ≤ 64 → i < s .«signal_count» → removed s i .«signal_count» + 1 ≡ s .«signal_count»
 removed-count s i h g = rw (removed-at s i h g) (omega arith)
@@ -103,7 +97,8 @@ module _ (f : Workflow) where
 
   pub entered : (s : State) (n b : ℕ) (m : Mappings) → Entered (s .«signal_count») (enter f s n b m)
   unfolding enter
-  entered s n b m = entered-if _ (entered-terminate s _) (entered-if _ (entered-terminate s _) (entered-arrive _ n b m))
+  entered s n b m =
+      entered-if _ (entered-as s (Refuse 0) (omega arith)) (entered-if _ (entered-terminate s _) (entered-if _ (entered-terminate s _) (entered-arrive _ n b m)))
 
   -- ROUTING.
   spares-if : {h : ℕ} (b : Bool) {x y : Move} → Spares h x → Spares h y → Spares h (if b then x else y)
@@ -126,7 +121,7 @@ module _ (f : Workflow) where
 
   spares-route : (s : State) (o : ℕ) (x : Output) → Spares (s .«signal_count») (route f s o x)
   unfolding route
-  spares-route s o x = spares-limited _ _ o _
+  spares-route s o x = spares-if _ (spares-as s (Refuse 0) (omega arith)) (spares-limited _ _ o _)
 
   -- TAKING. What comes where the signal does not route is k.
   costs-take-by : (y : Found) (s : State) (x : BufferedSignal) (k : Next) → cost k (s .«signal_count») ≤ 1 + 2 * s .«signal_count»

@@ -9,7 +9,7 @@ use lib.ListN.{getD, take, length, length-set}
 use lib.Seq.{getD-set-same}
 use lib.Dec.{eqb}
 use borrow.Author.Tests.{leb-false, eqb-true, ne-eqb, not-true, not-false}
-use Rattle.laws.specs.Bool.{if_then_else_, _and_, both, join, if-true, if-false, split}
+use Rattle.laws.specs.Bool.{if_then_else_, _and_, both, join, if-true, if-false, split, either}
 use Rattle.workflow.specs.declared.Found.{Found}
 use Rattle.workflow.specs.declared.Found.the-variants.{At, Nothing}
 use Rattle.workflow.specs.View.{Workflow}
@@ -38,7 +38,7 @@ use Rattle.model.specs.Store.{stored, signal-at, removed, appended}
 use Rattle.model.specs.Step.{no-ending, still, reading, counted, phased, arrival, terminate, evaluate, schedule, enter-activity, arrive, enter, follow-to, route-limited, route, take-by, take-signal, retry, complete-invocation, stick, fail-invocation, applies, on-signal, on-success, on-failure, on-unknown, on-result, resolve-fail, on-resolved, on-ended, react, apply}
 use Rattle.model.specs.Counts.{is-it, times, ends-of, Counts, plain, ends-none, ends-one, appended-room, times-set, removed-at, length-without, times-without, counts-more, grows-set}
 use Rattle.model.specs.Tidy.{Missed, rests, consumes}
-use Rattle.model.specs.Cost.{either, entered, spares-result, spares-resolved}
+use Rattle.model.specs.Cost.{entered, spares-result, spares-resolved}
 
 -- A CALL, by the record that it is given and its event.
 -- How often q is in the store or arrives.
@@ -70,6 +70,32 @@ pub record Ready (f : Workflow) (s : State) : Type 0 where
   pub room : s .«signal_count» ≤ 64
   pub counts : Counts f (s .visits) (s .activations)
   pub owner : eqb (s .invocation .phase) 0 ≡ false → Owner s
+
+-- The attempt that a heard result names is the one that is open.
+pub record Heard (f : Workflow) (s : State) (e : Event) : Type 0 where
+  pub node-is : e .node ≡ s .position .node
+  pub visit-is : e .visit ≡ visits-of s (e .node) .count
+  pub real : 1 ≤ e .visit
+  pub open-is : opens (s .invocation) ≡ e .attempt
+  pub rises : rise f s e ≡ 1
+
+pub heard-is : (f : Workflow) (s : State) (e : Event) → Ready f s → heard f s e ≡ true → Heard f s e
+unfolding rise
+heard-is f s e r h =
+    let n = both _ _ (both _ _ (both _ _ h .1) .1) in
+    let k = both _ _ (n .1) in
+    let p = both _ _ (n .0) in
+    let w = both _ _ (p .1) in
+    let own = r .owner (not-true _ (p .0)) in
+    let en : s .invocation .node ≡ e .node = eqb-true _ _ (w .0) in
+    let ev : s .invocation .visit ≡ e .visit = eqb-true _ _ (w .1) in
+    record {
+      node-is = sym en ∙ own .same-node;
+      visit-is = sym ev ∙ own .same-visit ∙ ap (λ (j : ℕ). visits-of s j .count) (sym (own .same-node) ∙ en);
+      real = omega (arith, own .visited);
+      open-is = if-true _ _ _ (k .1) ∙ eqb-true _ _ (k .0);
+      rises = if-true _ _ _ h;
+    }
 
 -- Nothing is told, or in hand.
 abbrev pub nothing : (q : ℕ) → ℕ
@@ -244,9 +270,10 @@ module _ (f : Workflow) (s₀ : State) (e : Event) where
       unfolding enter
       leads-enter s n b m h g =
           let i : n < 64 = omega (arith, sheet .few-nodes) in
-          either (Leads told) _ (λ _. leads-terminate s _ g)
+          either (Leads told) _ (λ _. record { leads = tt })
+          (λ _. either (Leads told) _ (λ _. leads-terminate s _ g)
           (λ v. either (Leads told) _ (λ _. leads-terminate s _ g)
-          (λ a. leads-arrive (counted s n) n (newer s n i g) (live-counted s n i (leb-false _ _ v) (leb-false _ _ a) g) b m))
+          (λ a. leads-arrive (counted s n) n (newer s n i g) (live-counted s n i (leb-false _ _ v) (leb-false _ _ a) g) b m)))
 
       pub good-enter : (s : State) (n b : ℕ) (m : Mappings) → n < f .node-count → Lives told s nothing → Good told (enter f s n b m)
       good-enter s n b m h g = good _ (entered f s n b m .no-end) (leads-enter s n b m h g)
@@ -264,7 +291,7 @@ module _ (f : Workflow) (s₀ : State) (e : Event) where
 
       leads-route : (s : State) (o : ℕ) (x : Output) → Lives told s nothing → Leads told (route f s o x)
       unfolding route
-      leads-route s o x g = leads-limited _ _ o _ g
+      leads-route s o x g = leads-if _ (record { leads = tt }) (leads-limited _ _ o _ g)
 
     -- TAKING.
     module _ {told : ℕ → ℕ} (s : State) (x : BufferedSignal) where

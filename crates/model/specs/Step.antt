@@ -10,7 +10,7 @@ use Rattle.workflow.specs.declared.Action.{Action}
 use Rattle.workflow.specs.declared.Found.{Found}
 use Rattle.workflow.specs.declared.Found.the-variants.{At, Nothing}
 use Rattle.workflow.specs.View.{Workflow}
-use Rattle.workflow.specs.Lookup.{found, node-of, policy-of, route-of, limit-of, declares}
+use Rattle.workflow.specs.Lookup.{found, node-slots, node-of, policy-of, route-of, limit-of, declares}
 use Rattle.model.specs.declared.ErrorInfo.{ErrorInfo}
 use Rattle.model.specs.declared.Output.{Output}
 use Rattle.model.specs.declared.Kept.{Kept}
@@ -146,17 +146,22 @@ module _ (f : Workflow) where
       if eqb (node-of f n .kind) complete then evaluate (answer m 0) s n field-output b 1 (λ x. reading 1 (still (finished s run-completed (record { output = Output.Handle x })) Rest)) else
       terminate s (error (node-of f n .code) n (node-of f n .detail))
 
+  -- The original fails where a run comes to or stands at no node of the sheet. On an accepted sheet it never does: 0 is never answered.
+  abbrev pub astray : State → Move
+  astray s = still s (Refuse 0)
+
   -- Entering tests visits, then activations, then adds one to both.
   unfoldable pub enter : State → (node come-from : ℕ) → Mappings → Move
   enter s n b m =
+      if leb (node-slots f) n then astray s else
       if leb (f .max-visits-per-node) (visits-of s n .count) then terminate s (error visits-exceeded n 0) else
       if leb (f .max-activations) (s .activations) then terminate s (error activations-exceeded n 0) else
       arrive (counted s n) n b m
 
-  -- The outcome's route is followed. An accepted sheet routes what comes here: 0 is never answered.
+  -- The outcome's route is followed. An accepted sheet routes what comes here.
   unfoldable pub follow-to : State → (node : ℕ) → Found → Move
   follow-to s n (At t) = still s (Enter t n)
-  follow-to s n Nothing = still s (Refuse 0)
+  follow-to s n Nothing = astray s
 
   abbrev pub follow : State → (node outcome : ℕ) → Move
   follow s n o = follow-to s n (route-of f n o)
@@ -177,6 +182,7 @@ module _ (f : Workflow) where
   unfoldable pub route : State → (outcome : ℕ) → Output → Move
   route s o x =
       let n = s .position .node in
+      if leb (node-slots f) n then astray s else
       route-limited (with-result s n (record { visit = s .position .visit; outcome = o; output = x })) n o (limit-of f n o)
 
   -- The route of a signal's outcome: none for exhausted in format 2.

@@ -10,13 +10,13 @@ use lib.ListN.{length, getD, set, take, drop, length-set}
 use lib.Seq.{getD-set-same, take-suc-set, drop-set-lt, drop-cons}
 use lib.Dec.{eqb, leb, ltb}
 use borrow.Author.Tests.{ltb-true, leb-true, leb-false, eqb-true, lt-ltb, le-leb, eq-eqb, ne-eqb, not-true, not-false}
-use Rattle.laws.specs.Bool.{if_then_else_, _and_, _or_, both, join, split, if-true, if-false}
+use Rattle.laws.specs.Bool.{if_then_else_, _and_, _or_, both, join, split, if-true, if-false, either}
 use Rattle.laws.specs.Every.{every}
 use Rattle.laws.specs.Shift.{without}
 use Rattle.workflow.specs.declared.Found.{Found}
 use Rattle.workflow.specs.declared.Found.the-variants.{At, Nothing}
 use Rattle.workflow.specs.View.{Workflow}
-use Rattle.workflow.specs.Lookup.{found, node-of, route-of, limit-of, declares}
+use Rattle.workflow.specs.Lookup.{found, node-slots, node-of, route-of, limit-of, declares}
 use Rattle.workflow.specs.Sound.{Sound}
 use Rattle.model.specs.declared.ErrorInfo.{ErrorInfo}
 use Rattle.model.specs.declared.Output.{Output}
@@ -207,11 +207,6 @@ module _ (f : Workflow) where
   pub record Good (v : Move) : Type 0 where
     pub after : After (v .state) (v .next)
 
-  either : (b : Bool) {x y : Move} → (b ≡ true → Good x) → (b ≡ false → Good y) → Good (if b then x else y)
-  unfolding if_then_else_
-  either true p q = p refl
-  either false p q = q refl
-
   missed : (s : State) (k : Next) → Missed k → Waiting s → After s k
   missed s Rest rests w = record { tidy = w .on .tidy; well = w .well }
   missed s Consume consumes w = w
@@ -360,16 +355,16 @@ module _ (f : Workflow) where
     unfolding enter-activity
     good-enter-activity b m k =
         good-evaluate _ s n _ b _ _ (on .tidy) (λ x.
-        either _
+        either Good _
         (λ _. good-evaluate _ s n _ b _ _ (on .tidy) (λ p. record { after = good-schedule x _ k .after }))
         (λ _. record { after = good-schedule x _ k .after }))
 
     good-arrive : (b : ℕ) (m : Mappings) → Good (arrive f s n b m)
     unfolding arrive
     good-arrive b m =
-        either _
+        either Good _
         (λ k. good-enter-activity b m (eqb-true _ _ k))
-        (λ _. either _
+        (λ _. either Good _
         (λ k. record {
           after = record {
             on = record { tidy = on .tidy; inside = on .inside; unended = on .unended };
@@ -377,7 +372,7 @@ module _ (f : Workflow) where
             live = unfold is-terminal _or_ in refl;
           };
         })
-        (λ _. either _
+        (λ _. either Good _
         (λ _. good-evaluate _ s n _ b _ _ (on .tidy) (λ x. record { after = good-finish s run-completed (Output.Handle x) (unfold is-terminal _or_ in refl) refl (on .tidy) .after }))
         (λ _. good-terminate s _ (on .tidy))))
 
@@ -395,13 +390,18 @@ module _ (f : Workflow) where
     unfolding route-limited
     good-limited s n o Nothing e h on = good-follow _ n o h (keep-streak on no-streak (no-streak-fits n))
     good-limited s n o (At x) e h on =
-        either _
+        either Good _
         (λ _. record { after = good-follow (with-streak s n no-streak) n exhausted (sheet .exhausts n o x e) (keep-streak on no-streak (no-streak-fits n)) .after })
         (λ g. good-follow _ n o h (keep-streak on _ (one-more-fits n o _ x e (leb-false _ _ g))))
 
+    -- a run at a node of the sheet is not astray
+    not-astray : {A : Type 0} {s : State} {n : ℕ} → On s n → leb (node-slots f) n ≡ true → A
+    not-astray {n = n} on z = absurd (omega (arith, on .inside, sheet .few-nodes, leb-true (node-slots f) n z))
+
     good-route : (s : State) (o : ℕ) (x : Output) → result-unused x ≡ false → routed f (s .position .node) o ≡ true → On s (s .position .node) → Good (route f s o x)
     unfolding route
-    good-route s o x e h on = good-limited _ _ o _ refl h (keep-result on _ (used-fits (s .position .visit) o x e))
+    good-route s o x e h on =
+        either Good _ (λ z. not-astray on z) (λ _. good-limited _ _ o _ refl h (keep-result on _ (used-fits (s .position .visit) o x e)))
 
     -- A node that was just entered has been visited.
     visited-once : (s : State) (n : ℕ) → On s n → 0 < visits-of (counted s n) n .count
@@ -412,11 +412,13 @@ module _ (f : Workflow) where
     pub good-enter : (s : State) (n b : ℕ) (m : Mappings) → On s n → Good (enter f s n b m)
     unfolding enter
     good-enter s n b m on =
-        either _
+        either Good _
+        (λ z. not-astray on z)
+        (λ _. either Good _
         (λ _. good-terminate s _ (on .tidy))
-        (λ _. either _
+        (λ _. either Good _
         (λ _. good-terminate s _ (on .tidy))
-        (λ _. good-arrive (counted s n) n (keep-counted on) (visited-once s n on) b m))
+        (λ _. good-arrive (counted s n) n (keep-counted on) (visited-once s n on) b m)))
 
     -- TAKING A SIGNAL
     good-take-by : (r : Found) (s : State) (x : BufferedSignal) (k : Next) → Missed k → Waiting s → (found r ≡ true → routed f (s .position .node) (signal-outcome (x .outcome)) ≡ true) → Good (take-by f r s x k)
@@ -431,7 +433,7 @@ module _ (f : Workflow) where
     module _ (s : State) (as-is : After s Rest) where
       good-ended : (e : Event) → Good (on-ended f s e)
       unfolding on-ended
-      good-ended e = either _ (λ _. record { after = as-is }) (λ _. record { after = as-is })
+      good-ended e = either Good _ (λ _. record { after = as-is }) (λ _. record { after = as-is })
 
       module _ (live : is-terminal (s .status) ≡ false) where
         here : Is-here s
@@ -440,9 +442,9 @@ module _ (f : Workflow) where
         good-signal : (e : Event) → e .sequence ≤ largest → Good (on-signal f s e)
         unfolding on-signal
         good-signal e h =
-            either _
+            either Good _
             (λ _. record { after = record { on = record { tidy = as-is .tidy; inside = here .inside; unended = here .unended }; well = as-is .well; live = live } })
-            (λ _. either _
+            (λ _. either Good _
             (λ _. record { after = as-is })
             (λ g. record { after = after-appended s (arrival e) (leb-false _ _ g) h as-is }))
 
@@ -461,9 +463,9 @@ module _ (f : Workflow) where
           good-retry : (delay : ℕ) → Good (retry f s delay)
           unfolding retry
           good-retry d =
-              either _
+              either Good _
               (λ _. record { after = inl refl })
-              (λ _. either _
+              (λ _. either Good _
               (λ _. record { after = inl refl })
               (λ _. record { after = after-phased running scheduled _ Kept.Nothing (omega arith) (unfold is-terminal if_then_else_ _and_ _or_ in refl) }))
 
@@ -473,25 +475,25 @@ module _ (f : Workflow) where
 
           good-fail : (k d : ℕ) (p : Bool) → Good (fail-invocation f s k d p)
           unfolding fail-invocation
-          good-fail k d p = either _ (λ h. good-complete _ _ refl h) (λ _. either _ (λ h. good-stick _ (both _ _ h .1)) (λ _. good-terminate s _ (as-is .tidy)))
+          good-fail k d p = either Good _ (λ h. good-complete _ _ refl h) (λ _. either Good _ (λ h. good-stick _ (both _ _ h .1)) (λ _. good-terminate s _ (as-is .tidy)))
 
           good-declared : (o x : ℕ) → declares f (node-of f (s .position .node) .action) o ≡ true → Good (complete-invocation f s o (Output.Handle x))
           good-declared o x h = good-complete o _ refl (sheet .declared-routed _ o (here .inside) (owned .0 .kind) h)
 
           good-success : (e : Event) → Good (on-success f s e)
           unfolding on-success
-          good-success e = either _ (λ h. good-declared _ _ h) (λ _. good-fail _ _ _)
+          good-success e = either Good _ (λ h. good-declared _ _ h) (λ _. good-fail _ _ _)
 
           good-failure : (e : Event) → Good (on-failure f s e)
           unfolding on-failure
-          good-failure e = either _ (λ _. good-retry _) (λ _. either _ (λ _. good-fail _ _ _) (λ _. good-fail _ _ _))
+          good-failure e = either Good _ (λ _. good-retry _) (λ _. either Good _ (λ _. good-fail _ _ _) (λ _. good-fail _ _ _))
 
           good-unknown : (e : Event) → Good (on-unknown f s e)
           unfolding on-unknown
           good-unknown e =
-              either _
+              either Good _
               (λ _. record { after = after-phased needs-intervention unknown _ Kept.Nothing (omega arith) (unfold is-terminal if_then_else_ _and_ _or_ in refl) })
-              (λ _. either _ (λ _. good-retry _) (λ _. good-fail _ _ _))
+              (λ _. either Good _ (λ _. good-retry _) (λ _. good-fail _ _ _))
 
           good-resolve-fail : (x : Kept) (e : Event) → Good (resolve-fail f x s e)
           unfolding resolve-fail
@@ -504,39 +506,39 @@ module _ (f : Workflow) where
         good-result : (e : Event) → Good (on-result f s e)
         unfolding on-result
         good-result e =
-            either _
+            either Good _
             (λ _. record { after = as-is })
             (λ h.
             let c = called-by e (both _ _ (not-false _ h) .0) in
-            either _ (λ _. good-success c e) (λ _. either _ (λ _. good-failure c e) (λ _. good-unknown c e)))
+            either Good _ (λ _. good-success c e) (λ _. either Good _ (λ _. good-failure c e) (λ _. good-unknown c e)))
 
         good-resolved : (e : Event) → Good (on-resolved f s e)
         unfolding on-resolved
         good-resolved e =
-            either _
+            either Good _
             (λ _. record { after = as-is })
             (λ h.
             let c = called-by e (not-false _ h) in
-            either _
+            either Good _
             (λ _. record { after = as-is })
-            (λ _. either _
-            (λ _. either _ (λ d. good-declared c _ _ d) (λ _. record { after = as-is }))
-            (λ _. either _ (λ _. good-retry c 0) (λ _. good-resolve-fail c _ e))))
+            (λ _. either Good _
+            (λ _. either Good _ (λ d. good-declared c _ _ d) (λ _. record { after = as-is }))
+            (λ _. either Good _ (λ _. good-retry c 0) (λ _. good-resolve-fail c _ e))))
 
     -- A start finds a run that has not ended and has no result; any other event one that stands as it should.
     pub good-react : (s : State) (e : Event) → Tidies s → (eqb (e .kind) run-started ≡ true → (is-terminal (s .status) ≡ false) × (s .result .output ≡ Output.Nothing)) → (eqb (e .kind) run-started ≡ false → stands f s ≡ true) → e .sequence ≤ largest → Good (react f s e)
     unfolding react
     good-react s e t first later q =
-        either _
+        either Good _
         (λ x. good-ended s (record { tidy = t; well = split (eqb (e .kind) run-started) (λ k. absurd (false≢true (sym (first k .0) ∙ x))) later }) e)
-        (λ l. either _
+        (λ l. either Good _
         (λ k. record { after = record { tidy = t; inside = sheet .start; unended = first k .1 } })
         (λ k.
         let as-is : After s Rest = record { tidy = t; well = later k } in
-        either _
+        either Good _
         (λ _. good-signal s as-is l e q)
-        (λ _. either _
+        (λ _. either Good _
         (λ _. good-result s as-is l e)
-        (λ _. either _
+        (λ _. either Good _
         (λ _. good-resolved s as-is l e)
         (λ _. record { after = as-is })))))

@@ -1,6 +1,6 @@
 -- Looking things up in a sheet.
 use mathlib.Core.Bool.{Bool, true, false}
-use Prim.Native.Nat.{ℕ}
+use Prim.Native.Nat.{ℕ, min}
 use lib.ListN.{getD}
 use lib.Dec.{eqb}
 use Rattle.laws.specs.Bool.{_and_}
@@ -18,6 +18,10 @@ use Rattle.workflow.specs.declared.Found.the-variants.{At, Nothing}
 abbrev pub found : Found → Bool
 found (At x) = true
 found Nothing = false
+
+-- How many nodes there are, held to the room there is.
+abbrev pub node-slots : Workflow → ℕ
+node-slots f = min 64 (f .node-count)
 
 -- The row of a node, and the policy of an action; zeros where the sheet lacks it.
 unfoldable pub node-of : Workflow → ℕ → Node
