@@ -1,14 +1,14 @@
 -- Sets of numbers as one number: what a digit says.
 use mathlib.Core.Path.{_≡_, refl, sym, ap, _∙_}
-use mathlib.Core.Bool.{Bool, true, false}
+use mathlib.Core.Bool.{Bool, true, false, false≢true}
 use mathlib.Core.Logic.{_⊎_, inl, inr}
-use Prim.Native.Nat.{ℕ, zero, suc, _+_, _/_, _%_, _^_, _≤_, _<_, max}
+use Prim.Native.Nat.{ℕ, zero, suc, _+_, _*_, _/_, _%_, _^_, _≤_, _<_, min, max}
 use native.Mathlib.Nat.{pow-suc, pow-succ', div-div-eq-div-mul, div-one}
 use native.Mathlib.Omega.{arith}
 use lib.Dec.{ltb, eqb}
-use lib.Bits.{bitOr, or-step, or-shr}
+use lib.Bits.{bitAnd, bitOr, and-step, and-shr, or-step, or-shr}
 use borrow.Author.Tests.{eq-eqb, ne-eqb, eqb-true, eqb-false, ltb-true, ltb-false}
-use Rattle.laws.specs.Bool.{if_then_else_, _or_, split}
+use Rattle.laws.specs.Bool.{if_then_else_, _and_, _or_, split}
 use Rattle.graph.specs.Sets.{has, mark}
 
 pub has-suc : (s n : ℕ) → has s (suc n) ≡ has (s / 2) n
@@ -17,23 +17,37 @@ has-suc s n = ap (λ (x : ℕ). eqb (x % 2) 1) (ap (λ (x : ℕ). s / x) (pow-su
 pub has-zero : (s : ℕ) → has s 0 ≡ eqb (s % 2) 1
 has-zero s = ap (λ (x : ℕ). eqb (x % 2) 1) (div-one s)
 
--- a digit of a union
-max-one : (x y : ℕ) → x < 2 → y < 2 → eqb (max x y) 1 ≡ (eqb x 1 or eqb y 1)
-unfolding _or_
-max-one zero zero h k = refl
-max-one zero (suc zero) h k = refl
-max-one zero (suc (suc y)) h k = absurd (omega arith)
-max-one (suc zero) zero h k = refl
-max-one (suc zero) (suc zero) h k = refl
-max-one (suc zero) (suc (suc y)) h k = absurd (omega arith)
-max-one (suc (suc x)) y h k = absurd (omega arith)
+-- two digits, by cases
+on-digits : (P : ℕ → ℕ → Type 0) → P 0 0 → P 0 1 → P 1 0 → P 1 1 → (x y : ℕ) → x < 2 → y < 2 → P x y
+on-digits P a b c d zero zero h k = a
+on-digits P a b c d zero (suc zero) h k = b
+on-digits P a b c d (suc zero) zero h k = c
+on-digits P a b c d (suc zero) (suc zero) h k = d
+on-digits P a b c d zero (suc (suc y)) h k = absurd (omega arith)
+on-digits P a b c d (suc zero) (suc (suc y)) h k = absurd (omega arith)
+on-digits P a b c d (suc (suc x)) y h k = absurd (omega arith)
 
-has-or : (s u n : ℕ) → has (bitOr s u) n ≡ (has s n or has u n)
-has-or s u n =
-    let a = s / 2 ^ n in
-    let b = u / 2 ^ n in
-    let e : bitOr s u / 2 ^ n % 2 ≡ max (a % 2) (b % 2) = ap (λ (x : ℕ). x % 2) (or-shr s u n ∙ or-step a b) ∙ omega arith in
-    rw e (max-one (a % 2) (b % 2) (omega arith) (omega arith))
+-- a digit of what an operation f on digits makes of two numbers, where g says of tests what f says of digits
+module _ (op f : ℕ → ℕ → ℕ) (g : Bool → Bool → Bool) where
+  abbrev Says : ℕ → ℕ → Type 0
+  Says x y = (f x y < 2) × (eqb (f x y) 1 ≡ g (eqb x 1) (eqb y 1))
+
+  has-op : ((a b : ℕ) → op a b ≡ op (a / 2) (b / 2) * 2 + f (a % 2) (b % 2)) → ((a b k : ℕ) → op a b / 2 ^ k ≡ op (a / 2 ^ k) (b / 2 ^ k))
+      → Says 0 0 → Says 0 1 → Says 1 0 → Says 1 1 → (s u n : ℕ) → has (op s u) n ≡ g (has s n) (has u n)
+  has-op step shr p q r t s u n =
+      let a = s / 2 ^ n in
+      let b = u / 2 ^ n in
+      let w = on-digits Says p q r t (a % 2) (b % 2) (omega arith) (omega arith) in
+      let e : op s u / 2 ^ n % 2 ≡ f (a % 2) (b % 2) = ap (λ (x : ℕ). x % 2) (shr s u n ∙ step a b) ∙ omega arith in
+      rw e (w .1)
+
+pub has-or : (s u n : ℕ) → has (bitOr s u) n ≡ (has s n or has u n)
+unfolding _or_
+has-or = has-op bitOr max _or_ or-step or-shr (omega arith, refl) (omega arith, refl) (omega arith, refl) (omega arith, refl)
+
+pub has-and : (s u n : ℕ) → has (bitAnd s u) n ≡ (has s n and has u n)
+unfolding _and_
+has-and = has-op bitAnd min _and_ and-step and-shr (omega arith, refl) (omega arith, refl) (omega arith, refl) (omega arith, refl)
 
 -- a digit of a power
 pub has-none : (n : ℕ) → has 0 n ≡ false
@@ -76,16 +90,9 @@ lt-or-ge i k = split (ltb i k) (λ e. inl (ltb-true i k e)) (λ e. inr (ltb-fals
 
 -- Equal digits, equal numbers.
 digit : (s t : ℕ) → has s 0 ≡ has t 0 → s % 2 ≡ t % 2
-digit s t e = go (s % 2) (t % 2) (omega arith) (omega arith) (sym (has-zero s) ∙ e ∙ has-zero t)
-  where
-    go : (x y : ℕ) → x < 2 → y < 2 → eqb x 1 ≡ eqb y 1 → x ≡ y
-    go zero zero h k e = refl
-    go zero (suc zero) h k e = absurd (let z : _≡_ {A = ℕ} 0 1 = cc in omega arith)
-    go (suc zero) zero h k e = absurd (let z : _≡_ {A = ℕ} 0 1 = cc in omega arith)
-    go (suc zero) (suc zero) h k e = refl
-    go zero (suc (suc y)) h k e = absurd (omega arith)
-    go (suc zero) (suc (suc y)) h k e = absurd (omega arith)
-    go (suc (suc x)) y h k e = absurd (omega arith)
+digit s t e =
+    on-digits (λ x y. eqb x 1 ≡ eqb y 1 → x ≡ y) (λ e. refl) (λ e. absurd (false≢true e)) (λ e. absurd (false≢true (sym e))) (λ e. refl)
+    (s % 2) (t % 2) (omega arith) (omega arith) (sym (has-zero s) ∙ e ∙ has-zero t)
 
 pub same-set : (k s t : ℕ) → s < 2 ^ k → t < 2 ^ k → ((n : ℕ) → n < k → has s n ≡ has t n) → s ≡ t
 same-set zero s t h g e = omega arith

@@ -6,3 +6,4 @@ pub mod Verdict
 pub mod Accepted
 pub mod Bits
 pub mod Reach
+pub mod ReachLaws

@@ -26,7 +26,7 @@ pub data Reaches (xs : List Route) (goal : ℕ) : ℕ → Type 0 where
   step : {x : Route} → In x xs → Reaches xs goal (x .target) → Reaches xs goal (x .node)
 
 -- A chain from a set, along the routes or against them.
-data Chain (b : Bool) (xs : List Route) (s : ℕ) : ℕ → Type 0 where
+pub data Chain (b : Bool) (xs : List Route) (s : ℕ) : ℕ → Type 0 where
   first : {n : ℕ} → has s n ≡ true → Chain b xs s n
   next : {x : Route} → In x xs → Chain b xs s (turned b x .node) → Chain b xs s (turned b x .target)
 
@@ -50,7 +50,7 @@ module _ (b : Bool) (xs : List Route) (s : ℕ) where
   pass-chained [] i t h = h
   pass-chained (y ∷ ys) i t h = pass-chained ys (λ x m. i x (tail m)) (follow t (turned b y)) (follow-chained t y (i y head) h)
 
-  repeated-chained : (k t : ℕ) → Chained t → Chained (repeated k (pass b xs) t)
+  pub repeated-chained : (k t : ℕ) → Chained t → Chained (repeated k (pass b xs) t)
   unfolding repeated
   repeated-chained zero t h = h
   repeated-chained (suc k) t h = repeated-chained k (pass b xs t) (pass-chained xs (λ x m. m) t h)
@@ -113,7 +113,7 @@ module _ (f : Workflow) (r : Rules f) (b : Bool) (s : ℕ) (low : s < 2 ^ f .nod
   passes-low : (t : ℕ) → t < 2 ^ f .node-count → pass b (f .routes) t < 2 ^ f .node-count
   passes-low t l = pass-low b _ (f .routes) t (λ x i. turned-inside b _ x (inside f r x i)) l
 
-  closed-whole : (n : ℕ) → Chain b (f .routes) s n → has (closed f b s) n ≡ true
+  pub closed-whole : (n : ℕ) → Chain b (f .routes) s n → has (closed f b s) n ≡ true
   closed-whole n (first p) = grows (f .node-count) (pass b (f .routes)) (pass-keeps b (f .routes)) passes-low (f .node-count) s n p
   closed-whole n (next {x} i q) =
       let e : pass b (f .routes) (closed f b s) ≡ closed f b s =
@@ -181,11 +181,11 @@ module _ (f : Workflow) where
           (or-cases (has s n) (eqb n i) (sym (has-mark s i n) ∙ (rw e at p))))
           (λ e. inl (rw e at p))
 
-in-span : (m i k n : ℕ) → k ≡ i + m → i ≤ n → n < k → In n (span (λ x. x) i k)
-in-span zero i k n e a b = absurd (omega arith)
-in-span (suc m) i k n e a b =
-    rw (span-more (λ x. x) i k (omega arith))
-    (split (eqb n i) (λ q. rw (eqb-true n i q) head) (λ q. let d : n ≡ i → ⊥ = eqb-false n i q in tail (in-span m (i + 1) k n (omega arith) (omega arith) b)))
+pub in-span : {A : Type 0} (f : ℕ → A) (m i k n : ℕ) → k ≡ i + m → i ≤ n → n < k → In (f n) (span f i k)
+in-span f zero i k n e a b = absurd (omega arith)
+in-span f (suc m) i k n e a b =
+    rw (span-more f i k (omega arith))
+    (split (eqb n i) (λ q. rw (eqb-true n i q) head) (λ q. let d : n ≡ i → ⊥ = eqb-false n i q in tail (in-span f m (i + 1) k n (omega arith) (omega arith) b)))
 
 span-in : (m i k n : ℕ) → k ≡ i + m → In n (span (λ x. x) i k) → n < k
 span-in zero i k n e p = absurd (nowhere (rw (span-none (λ x. x) i k (omega arith)) at p))
@@ -207,6 +207,11 @@ pub record Ending (f : Workflow) (n : ℕ) : Type 0 where
 module _ (f : Workflow) (r : Rules f) where
   abbrev ends : ℕ
   ends = ends-of f (span (λ n. n) 0 (f .node-count)) 0
+
+  pub ends-fit : ends < 2 ^ f .node-count
+  ends-fit =
+      let k = f .node-count in
+      ends-low f k (span (λ n. n) 0 k) 0 (λ n p. span-in k 0 k n (omega arith) p) (pow-pos k)
 
   is-an-end : (n : ℕ) → has ends n ≡ true → End f n
   is-an-end n h =
@@ -231,5 +236,5 @@ module _ (f : Workflow) (r : Rules f) where
   unfolding ending
   chain-ending n e =
       let k = f .node-count in
-      let a : has ends (e .goal) ≡ true = ends-add f (span (λ n. n) 0 k) 0 (in-span k 0 k (e .goal) (omega arith) (omega arith) (e .end .there)) (e .end .is-end) in
-      closed-whole f r true ends (ends-low f k (span (λ n. n) 0 k) 0 (λ n p. span-in k 0 k n (omega arith) p) (pow-pos k)) n (against (e .goal) n a (e .chain))
+      let a : has ends (e .goal) ≡ true = ends-add f (span (λ n. n) 0 k) 0 (in-span (λ n. n) k 0 k (e .goal) (omega arith) (omega arith) (e .end .there)) (e .end .is-end) in
+      closed-whole f r true ends ends-fit n (against (e .goal) n a (e .chain))

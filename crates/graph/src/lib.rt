@@ -1,5 +1,7 @@
 // The verdict on a sheet.
 
+pub mod reach;
+
 // The first broken rule with its item, or none.
 pub enum Verdict {
     Fine,

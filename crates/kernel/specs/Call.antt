@@ -24,14 +24,8 @@ use Rattle.model.specs.declared.moves.Next.the-variants.{Rest, Enter, Take, Con
 use Rattle.model.specs.Code.{none, largest, run-started, activity-result, invocation-resolved}
 use Rattle.model.specs.Record.{fresh}
 use Rattle.model.specs.Check.{consistent}
+use Rattle.kernel.specs.declared.Call.{Call}
 use Rattle.kernel.specs.Drive.{Machine, driven}
-
--- What a call carries beside the sheet and the record.
-pub record Call : Type 0 where
-  pub ceilings : Ceilings
-  pub limits : Limits
-  pub event : Event
-  pub mappings : Mappings
 
 -- The record that stands, if there is one.
 pub data Last : Type 0 where

@@ -22,7 +22,8 @@ use Rattle.model.specs.Record.{is-terminal}
 use Rattle.model.specs.Store.{stored}
 use Rattle.model.specs.Check.{consistent}
 use Rattle.model.specs.Counts.{is-it, times, Counts, plain}
-use Rattle.kernel.specs.Call.{Call, Accepted, Answer, next, wants, refused, Last, no-record, last, course, counted, transition}
+use Rattle.kernel.specs.declared.Call.{Call}
+use Rattle.kernel.specs.Call.{Accepted, Answer, next, wants, refused, Last, no-record, last, course, counted, transition}
 
 -- THE LIST. Its calls are on one sheet, each with ceilings, limits and mapping answers of its own. A history is the calls so far, newest first, each with the
 -- record that it was given and its answer.

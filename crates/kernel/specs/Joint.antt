@@ -16,7 +16,8 @@ use Rattle.model.specs.declared.answer.Note.{Note}
 use Rattle.model.specs.declared.answer.Ending.{Ending}
 use Rattle.model.specs.Record.{no-node-result, streak-of, set-signals}
 use Rattle.model.specs.Answers.{params-numbers, order-numbers}
-use Rattle.kernel.specs.Call.{Call, Answer, next, wants, refused, Last, no-record, last}
+use Rattle.kernel.specs.declared.Call.{Call}
+use Rattle.kernel.specs.Call.{Answer, next, wants, refused, Last, no-record, last}
 use Rattle.kernel.specs.Demand3.{Entry, standing, history}
 use Rattle.laws.specs.Bool.{if_then_else_, _and_, _or_}
 use Rattle.laws.specs.Rows.{rows, span}

@@ -34,7 +34,8 @@ use Rattle.model.specs.Store.{stored}
 use Rattle.model.specs.Tidy as Tidy
 use Rattle.model.specs.Keep.{Owner, Ready}
 use Rattle.kernel.specs.Drive.{Machine, driven}
-use Rattle.kernel.specs.Call.{Call, Accepted, Answer, next, wants, refused, Last, no-record, last, event-fits, is-start, record-stage, admission, given, Course, away, stepped, course-by, course, finish-by, finish, conclude, counted, transition}
+use Rattle.kernel.specs.declared.Call.{Call}
+use Rattle.kernel.specs.Call.{Accepted, Answer, next, wants, refused, Last, no-record, last, event-fits, is-start, record-stage, admission, given, Course, away, stepped, course-by, course, finish-by, finish, conclude, counted, transition}
 use Rattle.kernel.specs.Demand3.{Entry, standing-after, standing, made, history, Done, done-by, accepted, signals, in-store, endings, Fate, no-signal, still-stored, has-ended, counts, Reports, Not-26, Demand3, demand-3}
 use Rattle.kernel.specs.Held.{need, Holds, Held, held-driven, driven-frozen, driven-hears}
 use Rattle.kernel.specs.Hold.{Fact, History, fresh-history, one-more}
