@@ -7,3 +7,4 @@ pub mod Accepted
 pub mod Bits
 pub mod Reach
 pub mod ReachLaws
+pub mod FormLaws

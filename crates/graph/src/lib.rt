@@ -1,5 +1,6 @@
 // The verdict on a sheet.
 
+pub mod form;
 pub mod reach;
 
 // The first broken rule with its item, or none.

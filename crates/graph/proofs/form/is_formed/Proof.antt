@@ -1,0 +1,65 @@
+use borrow.Author.Needs.{needs}
+use Rattle.graph.specs.FormLaws.{form-parts, passed, stopped}
+use Rattle.graph.proofs.form.is_formed.Statement.{statement}
+use Rattle.graph.proofs.form.is_formed.Tie as tie
+
+counts-fit-requires : tie.Need-counts-fit-requires
+counts-fit-requires c κs = search needs
+
+returns : tie.Need-returns
+returns c = rw form-parts (stopped (c .before .counts-fit .ensures) (c .if1 .taken) _)
+
+nodes-formed-requires : tie.Need-nodes-formed-requires
+nodes-formed-requires c κs = search needs
+
+returns-2 : tie.Need-returns-2
+returns-2 c = rw (form-parts, passed (c .before .before .before .counts-fit .ensures) (c .before .before .if1 .left)) (stopped (c .before .nodes-formed .ensures) (c .if2 .taken) _)
+
+actions-formed-requires : tie.Need-actions-formed-requires
+actions-formed-requires c κs = search needs
+
+returns-3 : tie.Need-returns-3
+returns-3 c = rw (form-parts, passed (c .before .before .before .before .before .counts-fit .ensures) (c .before .before .before .before .if1 .left), passed (c .before .before .before .nodes-formed .ensures) (c .before .before .if2 .left)) (stopped (c .before .actions-formed .ensures) (c .if3 .taken) _)
+
+routes-formed-requires : tie.Need-routes-formed-requires
+routes-formed-requires c κs = search needs
+
+returns-4 : tie.Need-returns-4
+returns-4 c = rw (form-parts, passed (c .before .before .before .before .before .before .before .counts-fit .ensures) (c .before .before .before .before .before .before .if1 .left), passed (c .before .before .before .before .before .nodes-formed .ensures) (c .before .before .before .before .if2 .left), passed (c .before .before .before .actions-formed .ensures) (c .before .before .if3 .left)) (stopped (c .before .routes-formed .ensures) (c .if4 .taken) _)
+
+limits-formed-requires : tie.Need-limits-formed-requires
+limits-formed-requires c κs = search needs
+
+returns-5 : tie.Need-returns-5
+returns-5 c = rw (form-parts, passed (c .before .before .before .before .before .before .before .before .before .counts-fit .ensures) (c .before .before .before .before .before .before .before .before .if1 .left), passed (c .before .before .before .before .before .before .before .nodes-formed .ensures) (c .before .before .before .before .before .before .if2 .left), passed (c .before .before .before .before .before .actions-formed .ensures) (c .before .before .before .before .if3 .left), passed (c .before .before .before .routes-formed .ensures) (c .before .before .if4 .left)) (stopped (c .before .limits-formed .ensures) (c .if5 .taken) _)
+
+declared-formed-requires : tie.Need-declared-formed-requires
+declared-formed-requires c κs = search needs
+
+returns-6 : tie.Need-returns-6
+returns-6 c = rw (form-parts, passed (c .before .before .before .before .before .before .before .before .before .before .before .counts-fit .ensures) (c .before .before .before .before .before .before .before .before .before .before .if1 .left), passed (c .before .before .before .before .before .before .before .before .before .nodes-formed .ensures) (c .before .before .before .before .before .before .before .before .if2 .left), passed (c .before .before .before .before .before .before .before .actions-formed .ensures) (c .before .before .before .before .before .before .if3 .left), passed (c .before .before .before .before .before .routes-formed .ensures) (c .before .before .before .before .if4 .left), passed (c .before .before .before .limits-formed .ensures) (c .before .before .if5 .left)) (stopped (c .before .declared-formed .ensures) (c .if6 .taken) _)
+
+is-blank-requires : tie.Need-is-blank-requires
+is-blank-requires c κs = search needs
+
+returns-7 : tie.Need-returns-7
+returns-7 c = rw (form-parts, passed (c .before .before .before .before .before .before .before .before .before .before .before .before .counts-fit .ensures) (c .before .before .before .before .before .before .before .before .before .before .before .if1 .left), passed (c .before .before .before .before .before .before .before .before .before .before .nodes-formed .ensures) (c .before .before .before .before .before .before .before .before .before .if2 .left), passed (c .before .before .before .before .before .before .before .before .actions-formed .ensures) (c .before .before .before .before .before .before .before .if3 .left), passed (c .before .before .before .before .before .before .routes-formed .ensures) (c .before .before .before .before .before .if4 .left), passed (c .before .before .before .before .limits-formed .ensures) (c .before .before .before .if5 .left), passed (c .before .before .declared-formed .ensures) (c .before .if6 .left)) (c .is-blank .ensures)
+
+pub is-formed-spec : {M : Type 1} → statement M
+is-formed-spec =
+    tie.close
+    (tie.spec
+    counts-fit-requires
+    returns
+    nodes-formed-requires
+    returns-2
+    actions-formed-requires
+    returns-3
+    routes-formed-requires
+    returns-4
+    limits-formed-requires
+    returns-5
+    declared-formed-requires
+    returns-6
+    is-blank-requires
+    returns-7)

@@ -1,0 +1,18 @@
+use borrow.Author.Needs.{needs}
+use Rattle.graph.specs.Form.{limit-fits}
+use Rattle.graph.specs.FormLaws.{and-3}
+use Rattle.graph.proofs.form.limit_fits.Statement.{statement}
+use Rattle.graph.proofs.form.limit_fits.Tie as tie
+
+routes-at-requires : tie.Need-routes-at-requires
+routes-at-requires c κs = search needs
+
+node-of-requires : tie.Need-node-of-requires
+node-of-requires c κs = search needs
+
+returns : tie.Need-returns
+unfolding limit-fits
+returns c = rw (← c .before .before .before .routes-at .ensures, ← c .before .before .node-of .ensures) (and-3 _ _ _)
+
+pub limit-fits-spec : {M : Type 1} → statement M
+limit-fits-spec = tie.close (tie.spec routes-at-requires node-of-requires returns)

@@ -1,0 +1,42 @@
+use borrow.Author.Needs.{needs}
+use Rattle.graph.specs.FormLaws.{nodes-blank, and-7}
+use Rattle.graph.proofs.form.nodes_blank.Statement.{statement}
+use Rattle.graph.proofs.form.nodes_blank.Tie as tie
+
+column-blank-requires : tie.Need-column-blank-requires
+column-blank-requires c κs = search needs
+
+column-blank-requires-2 : tie.Need-column-blank-requires-2
+column-blank-requires-2 c κs = search needs
+
+column-blank-requires-3 : tie.Need-column-blank-requires-3
+column-blank-requires-3 c κs = search needs
+
+column-blank-requires-4 : tie.Need-column-blank-requires-4
+column-blank-requires-4 c κs = search needs
+
+column-blank-requires-5 : tie.Need-column-blank-requires-5
+column-blank-requires-5 c κs = search needs
+
+column-blank-requires-6 : tie.Need-column-blank-requires-6
+column-blank-requires-6 c κs = search needs
+
+column-blank-requires-7 : tie.Need-column-blank-requires-7
+column-blank-requires-7 c κs = search needs
+
+returns : tie.Need-returns
+unfolding nodes-blank
+returns c = simp (← c .before .before .before .before .before .before .column-blank .ensures, ← c .before .before .before .before .before .column-blank2 .ensures, ← c .before .before .before .before .column-blank3 .ensures, ← c .before .before .before .column-blank4 .ensures, ← c .before .before .column-blank5 .ensures, ← c .before .column-blank6 .ensures, ← c .column-blank7 .ensures) (and-7 _ _ _ _ _ _ _)
+
+pub nodes-blank-spec : {M : Type 1} → statement M
+nodes-blank-spec =
+    tie.close
+    (tie.spec
+    column-blank-requires
+    column-blank-requires-2
+    column-blank-requires-3
+    column-blank-requires-4
+    column-blank-requires-5
+    column-blank-requires-6
+    column-blank-requires-7
+    returns)
