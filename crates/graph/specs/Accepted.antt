@@ -59,7 +59,7 @@ unfolding if_then_else_
 rule-fine k true e = refl
 rule-fine k false e = never e
 
-rule-at-fine : (k : ℕ) (x : Found) → rule-at k x ≡ Fine → x ≡ Nothing
+pub rule-at-fine : (k : ℕ) (x : Found) → rule-at k x ≡ Fine → x ≡ Nothing
 unfolding rule-at
 rule-at-fine k (At i) e = never e
 rule-at-fine k Nothing e = refl

@@ -8,3 +8,6 @@ pub mod Bits
 pub mod Reach
 pub mod ReachLaws
 pub mod FormLaws
+pub mod SearchLaws
+pub mod RulesLaws
+pub mod Stages

@@ -41,22 +41,32 @@ action-verdict f c a =
 unfoldable pub actions-verdict : Workflow → Ceilings → Verdict
 actions-verdict f c = first (λ a. is-broken (action-verdict f c a)) (λ _ a. action-verdict f c a) Fine 0 (span (λ n. n) 0 (f .action-count))
 
--- The stages, in the order of document 01.
-abbrev pub stages : Workflow → Ceilings → List Verdict
-stages f c =
-    rule 20 (form f)
-    ∷ rule 1 (eqb (f .format) 1 or is-0-2 f)
+-- The stages, in the order of document 01: the form, what a formed sheet is held to, its graph, and where its routes lead.
+abbrev pub reach-stages : Workflow → List Verdict
+reach-stages f =
+    rule-at 14 (lowest (f .node-count) (λ n. is-0-2 f and not (has (reached f) n)))
+    ∷ rule-at 15 (lowest (f .node-count) (λ n. is-0-2 f and not (has (ending f) n)))
+    ∷ []
+
+abbrev pub graph-stages : Workflow → List Verdict
+graph-stages f =
+    rule-at 8 (lowest (f .node-count) (breaks-8 f))
+    ∷ rule-at 9 (lowest (f .node-count) (breaks-9 f))
+    ∷ rule-at 12 (lowest (f .node-count) (breaks-12 f))
+    ∷ reach-stages f
+
+abbrev pub formed-stages : Workflow → Ceilings → List Verdict
+formed-stages f c =
+    rule 1 (eqb (f .format) 1 or is-0-2 f)
     ∷ rule-at 1 (lowest (f .node-count) (breaks-1 f))
     ∷ rule 3 (within (c .nodes) (f .node-count))
     ∷ rule 5 (ltb (f .start) (f .node-count))
     ∷ rule 6 (within (c .visits) (f .max-visits-per-node) and within (c .activations) (f .max-activations))
     ∷ actions-verdict f c
-    ∷ rule-at 8 (lowest (f .node-count) (breaks-8 f))
-    ∷ rule-at 9 (lowest (f .node-count) (breaks-9 f))
-    ∷ rule-at 12 (lowest (f .node-count) (breaks-12 f))
-    ∷ rule-at 14 (lowest (f .node-count) (λ n. is-0-2 f and not (has (reached f) n)))
-    ∷ rule-at 15 (lowest (f .node-count) (λ n. is-0-2 f and not (has (ending f) n)))
-    ∷ []
+    ∷ graph-stages f
+
+abbrev pub stages : Workflow → Ceilings → List Verdict
+stages f c = rule 20 (form f) ∷ formed-stages f c
 
 -- The first stage that is broken.
 unfoldable pub first-broken : List Verdict → Verdict

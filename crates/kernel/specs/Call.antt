@@ -1,7 +1,7 @@
 -- A call, whole and in the order of document 01: sheet, event, record, step, finish.
 use mathlib.Core.Bool.{Bool, true, false, not}
 use mathlib.Core.List.{List, [], _∷_}
-use Prim.Native.Nat.{ℕ, _+_}
+use Prim.Native.Nat.{ℕ, _+_, _*_}
 use lib.ListN.{take}
 use lib.Dec.{ltb, leb, eqb}
 use Rattle.laws.specs.Bool.{if_then_else_, _and_, _or_}
@@ -31,6 +31,10 @@ use Rattle.kernel.specs.Drive.{Machine, driven}
 pub data Last : Type 0 where
   no-record : Last
   last : State → Last
+
+abbrev pub given-record : (has-record : Bool) → State → Last
+given-record true s = last s
+given-record false s = no-record
 
 -- The answer is one of three: a next record with its order, notes and endings; a want of one mapping value, with the record at that moment; a refusal with its number and item.
 pub record Accepted : Type 0 where
@@ -92,6 +96,11 @@ record-stage f c (last s) =
 -- The stages before the step, in their order.
 unfoldable pub admission : Workflow → Last → Call → Verdict
 admission f r c = first-broken (verdict f (c .ceilings) ∷ rule 21 (event-fits (c .event) (c .mappings)) ∷ record-stage f c r ∷ [])
+
+-- A verdict as one number for hosts: 0, or 256 times the refusal's number and its item.
+unfoldable pub verdict-number : Verdict → ℕ
+verdict-number Fine = 0
+verdict-number (Broken k i) = k * 256 + i
 
 -- The record that a step starts at.
 abbrev pub given : Last → Call → State

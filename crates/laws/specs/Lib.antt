@@ -7,3 +7,4 @@ pub mod All
 pub mod Shift
 pub mod Settle
 pub mod Arrays
+pub mod Tests

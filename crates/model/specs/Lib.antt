@@ -9,3 +9,5 @@ pub mod TidyLists
 pub mod Tidy
 pub mod Cost
 pub mod Keep
+pub mod EventCheck
+pub mod SnapshotLaws

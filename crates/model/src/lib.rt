@@ -3,6 +3,7 @@ pub mod answer;
 pub mod code;
 pub mod event;
 pub mod moves;
+pub mod snapshot;
 
 use workflow::Found;
 ghost use mathlib.Core.Path.{_≡_};

@@ -80,6 +80,14 @@ fn refused_at(number: u32, item: u32) -> Kind {
     Kind::Refused { number, item }
 }
 
+/// The verdict on a sheet alone: the broken rule and its item, or nothing.
+pub fn verdict(workflow: &Workflow, ceilings: &Ceilings) -> Option<(u32, u32)> {
+    match Graph::load(workflow, ceilings) {
+        Err(Kind::Refused { number, item }) => Some((number, item)),
+        _ => None,
+    }
+}
+
 /// Applies one event. The checks run in the order of 01's table; the first that fails is the answer.
 pub fn transition(
     workflow: &Workflow,

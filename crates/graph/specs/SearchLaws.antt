@@ -1,0 +1,470 @@
+-- Where sorted rows stand: what a binary search finds.
+use mathlib.Core.Path.{_≡_, sym, _∙_, ap}
+use mathlib.Core.Bool.{Bool, true, false, not, false≢true}
+use mathlib.Core.List.{List}
+use Prim.Native.Nat.{ℕ, zero, suc, _+_, _-_, _≤_, _<_, min}
+use native.Mathlib.Omega.{arith}
+use lib.ListN.{getD}
+use lib.Dec.{ltb, leb, eqb}
+use borrow.Author.Tests.{eq-eqb, eqb-true, eqb-false, not-true, not-false, ltb-true, ltb-false, leb-true, lt-ltb, le-ltb, le-leb, ne-eqb}
+use Rattle.laws.specs.Bool.{if_then_else_, _and_, _or_, split, both, if-true}
+use Rattle.laws.specs.Rows.{span, span-more, span-none}
+use Rattle.laws.specs.First.{first}
+use Rattle.workflow.specs.View.{Workflow, workflow, route-at, limit-at, declared-at}
+use Rattle.workflow.specs.Lookup.{are, route-of, limit-of}
+use Rattle.workflow.specs.declared.Found.the-variants.{At, Nothing}
+use Rattle.graph.specs.Form.{chained-from, chained, ascends, route-before, limit-before, declared-before, form}
+
+-- THE CUT: the lowest number below k that fails, or k.
+cut-from : (ℕ → Bool) → (i m : ℕ) → ℕ
+cut-from p i zero = i
+cut-from p i (suc m) = if p i then cut-from p (i + 1) m else i
+
+pub cut : (ℕ → Bool) → ℕ → ℕ
+cut p k = cut-from p 0 k
+
+pub record Cut (p : ℕ → Bool) (k c : ℕ) : Type 0 where
+  pub within : c ≤ k
+  pub below : (j : ℕ) → j < c → p j ≡ true
+  pub fails : c < k → p c ≡ false
+
+-- what passes below i and at i passes below i + 1
+one-up : (p : ℕ → Bool) (i j : ℕ) → ((j : ℕ) → j < i → p j ≡ true) → p i ≡ true → j < i + 1 → p j ≡ true
+one-up p i j b t h = split (eqb j i) (λ e. ap p (eqb-true j i e) ∙ t) (λ e. let d : j ≡ i → ⊥ = eqb-false j i e in b j (omega arith))
+
+cut-from-cuts : (p : ℕ → Bool) (k i m : ℕ) → k ≡ i + m → ((j : ℕ) → j < i → p j ≡ true) → Cut p k (cut-from p i m)
+unfolding cut-from if_then_else_
+cut-from-cuts p k i zero e b = record { within = omega arith; below = b; fails = λ h. absurd (omega arith) }
+cut-from-cuts p k i (suc m) e b =
+    split (p i) (λ t. rw t (cut-from-cuts p k (i + 1) m (omega arith) (λ j h. one-up p i j b t h)))
+    (λ t. rw t (record { within = omega arith; below = b; fails = λ h. t }))
+
+pub cuts : (p : ℕ → Bool) (k : ℕ) → Cut p k (cut p k)
+unfolding cut
+cuts p k = cut-from-cuts p k 0 k (omega arith) (λ j h. absurd (omega arith))
+
+-- there is one cut
+not-under : {p : ℕ → Bool} {k c d : ℕ} → Cut p k c → Cut p k d → d ≤ c
+not-under {p} {k} {c} {d} x y =
+    let u = x .within in
+    let v = y .within in
+    split (ltb c d) (λ e. let l = ltb-true c d e in absurd (false≢true (sym (x .fails (omega arith)) ∙ y .below c l))) (λ e. ltb-false c d e)
+
+pub the-cut : {p : ℕ → Bool} {k c : ℕ} → Cut p k c → c ≡ cut p k
+the-cut {p} {k} x =
+    let u = not-under x (cuts p k) in
+    let v = not-under (cuts p k) x in
+    omega arith
+
+same-cut : (p q : ℕ → Bool) (k : ℕ) → ((j : ℕ) → j < k → p j ≡ q j) → cut p k ≡ cut q k
+same-cut p q k s =
+    let x = cuts p k in
+    let u = x .within in
+    the-cut (record { within = x .within; below = λ j h. sym (s j (omega arith)) ∙ x .below j h; fails = λ h. sym (s _ h) ∙ x .fails h })
+
+-- A loop that brings low and high together: all below low pass, and high fails or is the end.
+pub record Halving (p : ℕ → Bool) (k low high : ℕ) : Type 0 where
+  pub meet : low ≤ high
+  pub within : high ≤ k
+  pub below : (j : ℕ) → j < low → p j ≡ true
+  pub fails : high < k → p high ≡ false
+
+-- What passes at a number passes below it.
+abbrev pub Falling : (ℕ → Bool) → ℕ → Type 0
+Falling p k = (i j : ℕ) → i ≤ j → j < k → p j ≡ true → p i ≡ true
+
+module _ {p : ℕ → Bool} {k : ℕ} where
+  pub halving-start : Halving p k 0 k
+  halving-start = record { meet = omega arith; within = omega arith; below = λ j h. absurd (omega arith); fails = λ h. absurd (omega arith) }
+
+  module _ {low high : ℕ} (inv : Halving p k low high) where
+    pub halving-up : (mid : ℕ) {b : Bool} → Falling p k → mid < high → b ≡ p mid → b ≡ true → Halving p k (mid + 1) high
+    halving-up mid falls h q t =
+        let w = inv .within in
+        record { meet = omega arith; within = w; below = λ j l. falls j mid (omega arith) (omega arith) (sym q ∙ t); fails = inv .fails }
+
+    pub halving-down : (mid : ℕ) {b : Bool} → low ≤ mid → mid < high → b ≡ p mid → b ≡ false → Halving p k low mid
+    halving-down mid l h q t =
+        let w = inv .within in
+        record { meet = l; within = omega arith; below = inv .below; fails = λ _. sym q ∙ t }
+
+    pub halving-end : high ≤ low → low ≡ cut p k
+    halving-end h =
+        let m = inv .meet in
+        let w = inv .within in
+        let e : low ≡ high = omega arith in
+        the-cut (record { within = omega arith; below = inv .below; fails = λ l. rw e (inv .fails (omega arith)) })
+
+-- THE ORDER OF PAIRS.
+data Ascends (n o n′ o′ : ℕ) : Type 0 where
+  by-node : n < n′ → Ascends n o n′ o′
+  by-outcome : n ≡ n′ → o < o′ → Ascends n o n′ o′
+
+ascended : (n o n′ o′ : ℕ) → ascends n o n′ o′ ≡ true → Ascends n o n′ o′
+unfolding ascends _or_
+ascended n o n′ o′ e =
+    split (ltb n n′) (λ h. by-node (ltb-true n n′ h))
+    (λ h. let g : eqb n n′ and ltb o o′ ≡ true = rw h at e in let f = both _ _ g in by-outcome (eqb-true n n′ (f .0)) (ltb-true o o′ (f .1)))
+
+ascending : {n o n′ o′ : ℕ} → Ascends n o n′ o′ → ascends n o n′ o′ ≡ true
+unfolding ascends _or_ _and_
+ascending {n} {o} {n′} {o′} (by-node h) = rw (lt-ltb n n′ h)
+ascending {n} {o} {n′} {o′} (by-outcome e h) = rw (le-ltb n n′ (omega arith), eq-eqb n n′ e, lt-ltb o o′ h)
+
+both-ascend : {a b c d x y : ℕ} → Ascends a b c d → Ascends c d x y → Ascends a b x y
+both-ascend (by-node h) (by-node g) = by-node (omega arith)
+both-ascend (by-node h) (by-outcome e g) = by-node (omega arith)
+both-ascend (by-outcome e h) (by-node g) = by-node (omega arith)
+both-ascend (by-outcome e h) (by-outcome f g) = by-outcome (omega arith) (omega arith)
+
+ascends-on : (a b c d x y : ℕ) → ascends a b c d ≡ true → ascends c d x y ≡ true → ascends a b x y ≡ true
+ascends-on a b c d x y e f = ascending (both-ascend (ascended a b c d e) (ascended c d x y f))
+
+leb-on : (a b c : ℕ) → leb a b ≡ true → leb b c ≡ true → leb a c ≡ true
+leb-on a b c e f =
+    let g = leb-true a b e in
+    let h = leb-true b c f in
+    le-leb a c (omega arith)
+
+-- A CHAIN: each row stands in the relation to every later one, not to the next alone.
+module _ {A : Type 0} (r : A → A → Bool) (f : ℕ → A) (k : ℕ) where
+  next-from : (d i : ℕ) → chained-from r (f i) (span f (i + 1) k) ≡ true → i + d + 1 < k → r (f (i + d)) (f (i + d + 1)) ≡ true
+  unfolding chained-from
+  next-from zero i e h =
+      let z : i + 0 ≡ i = omega arith in
+      rw z (both _ _ (rw (span-more f (i + 1) k (omega arith)) at e) .0)
+  next-from (suc d) i e h =
+      let z : i + suc d ≡ i + 1 + d = omega arith in
+      rw z (next-from d (i + 1) (both _ _ (rw (span-more f (i + 1) k (omega arith)) at e) .1) (omega arith))
+
+  next : chained r (span f 0 k) ≡ true → (i : ℕ) → i + 1 < k → r (f i) (f (i + 1)) ≡ true
+  unfolding chained
+  next e i h =
+      let z : 0 + i ≡ i = omega arith in
+      rw z at (next-from i 0 (rw (span-more f 0 k (omega arith)) at e) (omega arith))
+
+  module _ (on : (x y z : A) → r x y ≡ true → r y z ≡ true → r x z ≡ true) (e : chained r (span f 0 k) ≡ true) where
+    far : (d i : ℕ) → i + suc d < k → r (f i) (f (i + suc d)) ≡ true
+    far zero i h = next e i h
+    far (suc d) i h =
+        let z : i + suc (suc d) ≡ i + suc d + 1 = omega arith in
+        rw z (on _ _ _ (far d i (omega arith)) (next e (i + suc d) (omega arith)))
+
+    pairwise : (i j : ℕ) → i < j → j < k → r (f i) (f j) ≡ true
+    pairwise i j l h =
+        let z : j ≡ i + suc (j - (i + 1)) = omega arith in
+        rw z (far (j - (i + 1)) i (omega arith))
+
+-- THE COLUMNS OF A SHEET.
+abbrev pub column : List ℕ → (start slot : ℕ) → ℕ
+column w c j = getD w (c + j) 0
+
+-- The number of rows before a pair, and before a key; the first row of a pair.
+unfoldable pub rows-before : List ℕ → (major minor count x y : ℕ) → ℕ
+rows-before w a b k x y = cut (λ j. ascends (column w a j) (column w b j) x y) k
+
+unfoldable pub rows-below : List ℕ → (start count key : ℕ) → ℕ
+rows-below w c k n = cut (λ j. ltb (column w c j) n) k
+
+unfoldable pub row-of : List ℕ → (major minor count x y : ℕ) → ℕ
+row-of w a b k x y = cut (λ j. not (are (column w a j) (column w b j) x y)) k
+
+-- What a search for a pair needs: the rows before it stand first.
+pub record Halved (w : List ℕ) (a b k x y : ℕ) : Type 0 where
+  pub major-fits : a + k ≤ 4169
+  pub minor-fits : b + k ≤ 4169
+  pub falls : Falling (λ j. ascends (column w a j) (column w b j) x y) k
+
+-- Pairs that ascend strictly, and numbers that do not fall.
+pub record Ascending (w : List ℕ) (a b k : ℕ) : Type 0 where
+  pub major-fits : a + k ≤ 4169
+  pub minor-fits : b + k ≤ 4169
+  pub ascend : (i j : ℕ) → i < j → j < k → ascends (column w a i) (column w b i) (column w a j) (column w b j) ≡ true
+
+pub record Rising (w : List ℕ) (c k : ℕ) : Type 0 where
+  pub fits : c + k ≤ 4169
+  pub rise : (i j : ℕ) → i ≤ j → j < k → column w c i ≤ column w c j
+
+-- at two places of which one is not after the other
+at-or-before : {A : Type 0} (i j : ℕ) → i ≤ j → (i ≡ j → A) → (i < j → A) → A
+at-or-before i j h f g = split (eqb i j) (λ e. f (eqb-true i j e)) (λ e. let d = eqb-false i j e in g (omega arith))
+
+pub ascending-halved : {w : List ℕ} {a b k : ℕ} (x y : ℕ) → Ascending w a b k → Halved w a b k x y
+ascending-halved {w} {a} {b} x y s =
+    record {
+      major-fits = s .major-fits;
+      minor-fits = s .minor-fits;
+      falls = λ i j l h e. at-or-before i j l (λ q. rw q e) (λ g. ascends-on _ _ _ _ x y (s .ascend i j g h) e);
+    }
+
+not-above : {n o n′ o′ : ℕ} → Ascends n o n′ o′ → n ≤ n′
+not-above (by-node h) = omega arith
+not-above (by-outcome e h) = omega arith
+
+pub ascending-rising : {w : List ℕ} {a b k : ℕ} → Ascending w a b k → Rising w a k
+ascending-rising {w} {a} s =
+    record {
+      fits = s .major-fits;
+      rise = λ i j l h. at-or-before i j l (λ q. rw q (omega arith)) (λ g. not-above (ascended _ _ _ _ (s .ascend i j g h)));
+    }
+
+-- Before (x, 0) stands what is below x.
+before-first : (n o x : ℕ) → ascends n o x 0 ≡ ltb n x
+unfolding ascends _or_ _and_
+before-first n o x =
+    split (ltb n x) (λ h. rw h)
+    (λ h. rw (h, le-ltb o 0 (omega arith)) (split (eqb n x) (λ e. rw e) (λ e. rw e)))
+
+pub below-before : (w : List ℕ) (a b k x : ℕ) → rows-before w a b k x 0 ≡ rows-below w a k x
+unfolding rows-before rows-below
+below-before w a b k x = same-cut _ _ k (λ j h. before-first (column w a j) (column w b j) x)
+
+pub rising-halved : {w : List ℕ} {c k : ℕ} (x : ℕ) → Rising w c k → Halved w c c k x 0
+rising-halved {w} {c} x s =
+    record {
+      major-fits = s .fits;
+      minor-fits = s .fits;
+      falls = λ i j l h e.
+          let t : ltb (column w c j) x ≡ true = sym (before-first _ _ x) ∙ e in
+          let u = ltb-true (column w c j) x t in
+          let v = s .rise i j l h in
+          before-first _ _ x ∙ lt-ltb (column w c i) x (omega arith);
+    }
+
+-- A walk along the rows of one key, from the first to the end.
+pub record Passing (w : List ℕ) (c k from key i : ℕ) : Type 0 where
+  pub start : from ≤ i
+  pub within : i ≤ k
+  pub below : (j : ℕ) → j < i → ltb (column w c j) (key + 1) ≡ true
+
+below-more : (a b : ℕ) → ltb a b ≡ true → ltb a (b + 1) ≡ true
+below-more a b e = let h = ltb-true a b e in lt-ltb a (b + 1) (omega arith)
+
+module _ {w : List ℕ} {c k from : ℕ} (key : ℕ) (rising : Rising w c k) (first-row : from ≡ rows-below w c k key) where
+  it-starts : Cut (λ j. ltb (column w c j) key) k from
+  unfolding rows-below
+  it-starts = rw first-row (cuts _ k)
+
+  pub passing-start : Passing w c k from key from
+  passing-start = record { start = omega arith; within = it-starts .within; below = λ j h. below-more _ key (it-starts .below j h) }
+
+  module _ {i : ℕ} (inv : Passing w c k from key i) where
+    pub passing-next : i < k → column w c i ≡ key → Passing w c k from key (i + 1)
+    passing-next h e =
+        let s = inv .start in
+        record {
+          start = omega arith;
+          within = omega arith;
+          below = λ j l. one-up (λ n. ltb (column w c n) (key + 1)) i j (inv .below) (lt-ltb (column w c i) (key + 1) (omega arith)) l;
+        }
+
+    pub passing-stop : i < k → (column w c i ≡ key → ⊥) → i ≡ rows-below w c k (key + 1)
+    unfolding rows-below
+    passing-stop h d =
+        let s = inv .start in
+        let l : key ≤ column w c from = ltb-false (column w c from) key (it-starts .fails (omega arith)) in
+        let r = rising .rise from i s h in
+        the-cut (record { within = inv .within; below = inv .below; fails = λ _. le-ltb (column w c i) (key + 1) (omega arith) })
+
+    pub passing-end : k ≤ i → k ≡ rows-below w c k (key + 1)
+    unfolding rows-below
+    passing-end h =
+        let l = inv .within in
+        the-cut (record { within = omega arith; below = λ j g. inv .below j (omega arith); fails = λ g. absurd (omega arith) })
+
+-- A row and the first row.
+apart : {a b x y : ℕ} → Ascends a b x y → are a b x y ≡ false
+unfolding are _and_
+apart {a} {b} {x} {y} (by-node h) = rw (ne-eqb a x (λ e. omega arith))
+apart {a} {b} {x} {y} (by-outcome e h) = rw (eq-eqb a x e, ne-eqb b y (λ e. omega arith))
+
+module _ {w : List ℕ} {a b k c : ℕ} (x y : ℕ) (s : Ascending w a b k) (e : c ≡ rows-before w a b k x y) where
+  it : Cut (λ j. ascends (column w a j) (column w b j) x y) k c
+  unfolding rows-before
+  it = rw e (cuts _ k)
+
+  others : (j : ℕ) → j < c → not (are (column w a j) (column w b j) x y) ≡ true
+  others j h = ap not (apart (ascended _ _ x y (it .below j h)))
+
+  -- it is none of the rows
+  pub row-past : k ≤ c → k ≡ row-of w a b k x y
+  unfolding row-of
+  row-past h = the-cut (record { within = omega arith; below = λ j l. others j (omega arith); fails = λ l. absurd (omega arith) })
+
+  -- it is the row there
+  pub row-here : c < k → are (column w a c) (column w b c) x y ≡ true → c ≡ row-of w a b k x y
+  unfolding row-of
+  row-here h t = the-cut (record { within = omega arith; below = others; fails = λ l. ap not t })
+
+  -- the row there is another, and the later ones are past it
+  later : (j : ℕ) → c < j → j < k → are (column w a j) (column w b j) x y ≡ true → ⊥
+  unfolding are
+  later j l h t =
+      let q = both _ _ t in
+      let m : column w a j ≡ x = eqb-true _ _ (q .0) in
+      let n : column w b j ≡ y = eqb-true _ _ (q .1) in
+      let f : ascends (column w a c) (column w b c) x y ≡ true = rw (← m, ← n) (s .ascend c j l h) in
+      false≢true (sym (it .fails (omega arith)) ∙ f)
+
+  pub row-other : c < k → are (column w a c) (column w b c) x y ≡ false → k ≡ row-of w a b k x y
+  unfolding row-of
+  row-other h t = the-cut (record { within = omega arith; below = λ j l. at-place j l; fails = λ l. absurd (omega arith) })
+    where
+      at-place : (j : ℕ) → j < k → not (are (column w a j) (column w b j) x y) ≡ true
+      at-place j l =
+          split (ltb j c) (λ g. others j (ltb-true j c g))
+          (λ g. at-or-before c j (ltb-false j c g) (λ z. rw (← z) (ap not t)) (λ z. split (are (column w a j) (column w b j) x y) (λ u. absurd (later j z l u)) (λ u. ap not u)))
+
+-- THE FIRST ROW THAT PASSES, over the rows from i on.
+module _ {A B : Type 0} (q : A → Bool) (v : ℕ → A → B) (e : B) (f : ℕ → A) (k : ℕ) where
+  pub first-skip : (m i : ℕ) → i + m ≤ k → ((j : ℕ) → i ≤ j → j < i + m → q (f j) ≡ false) → first q v e i (span f i k) ≡ first q v e (i + m) (span f (i + m) k)
+  unfolding first if_then_else_
+  first-skip zero i h n =
+      let z : i + 0 ≡ i = omega arith in
+      rw z
+  first-skip (suc m) i h n =
+      let z : i + suc m ≡ i + 1 + m = omega arith in
+      rw (span-more f i k (omega arith), n i (omega arith) (omega arith), z) (first-skip m (i + 1) (omega arith) (λ j a b. n j (omega arith) (omega arith)))
+
+  -- the rows pass where s does
+  module _ (s : ℕ → Bool) (same : (j : ℕ) → j < k → q (f j) ≡ s j) {c : ℕ} (at-cut : c ≡ cut (λ j. not (s j)) k) where
+    the : Cut (λ j. not (s j)) k c
+    the = rw at-cut (cuts _ k)
+
+    skipped : first q v e 0 (span f 0 k) ≡ first q v e c (span f c k)
+    skipped =
+        let u = the .within in
+        let z : 0 + c ≡ c = omega arith in
+        rw z at (first-skip c 0 (omega arith) (λ j a b. same j (omega arith) ∙ not-true (s j) (the .below j (omega arith))))
+
+    first-at : c < k → v c (f c) ≡ first q v e 0 (span f 0 k)
+    unfolding first if_then_else_
+    first-at h = sym (skipped ∙ rw (span-more f c k h, same c h ∙ not-false (s c) (the .fails h)))
+
+    pub first-none : k ≤ c → e ≡ first q v e 0 (span f 0 k)
+    unfolding first
+    first-none h = sym (skipped ∙ rw (span-none f c k h))
+
+-- SORTED ROWS.
+pub record Sorted (f : Workflow) : Type 0 where
+  pub routes : chained route-before (f .routes) ≡ true
+  pub limits : chained limit-before (f .limits) ≡ true
+  pub declared : chained declared-before (f .declared) ≡ true
+
+pub form-sorted : (f : Workflow) → form f ≡ true → Sorted f
+unfolding form
+form-sorted f e =
+    let a = both _ _ (both _ _ (both _ _ e .1) .1) .1 in
+    let b = both _ _ (both _ _ a .1) .1 in
+    let c = both _ _ (both _ _ b .1) .1 in
+    record { routes = both _ _ a .0; limits = both _ _ b .0; declared = both _ _ c .0 }
+
+-- A TABLE of rows with a node, an outcome and a value, column by column.
+record Table {A : Type 0} (w : List ℕ) (a b t k : ℕ) (f : ℕ → A) (node outcome value : A → ℕ) : Type 0 where
+  major-fits : a + k ≤ 4169
+  minor-fits : b + k ≤ 4169
+  nodes : (j : ℕ) → j < k → node (f j) ≡ column w a j
+  outcomes : (j : ℕ) → j < k → outcome (f j) ≡ column w b j
+  values : (j : ℕ) → j < k → value (f j) ≡ column w t j
+
+module _ {A : Type 0} {w : List ℕ} {a b t k : ℕ} {f : ℕ → A} {node outcome value : A → ℕ} (table : Table w a b t k f node outcome value) where
+  table-ascends : chained (λ x y. ascends (node x) (outcome x) (node y) (outcome y)) (span f 0 k) ≡ true → Ascending w a b k
+  table-ascends s =
+      record {
+        major-fits = table .major-fits;
+        minor-fits = table .minor-fits;
+        ascend = λ i j l h.
+            rw (table .nodes i (omega arith), table .outcomes i (omega arith), table .nodes j h, table .outcomes j h)
+            at (pairwise (λ x y. ascends (node x) (outcome x) (node y) (outcome y)) f k (λ x y z. ascends-on (node x) (outcome x) (node y) (outcome y) (node z) (outcome z)) s i j l h);
+      }
+
+  -- a lookup by the row of a pair, with the count n and the row c that the code has
+  module _ (x y : ℕ) {n c : ℕ} (e : n ≡ k) (r : c ≡ row-of w a b n x y) where
+    same-rows : (j : ℕ) → j < k → are (node (f j)) (outcome (f j)) x y ≡ are (column w a j) (column w b j) x y
+    same-rows j h = rw (table .nodes j h, table .outcomes j h)
+
+    the-row : c ≡ cut (λ j. not (are (column w a j) (column w b j) x y)) k
+    unfolding row-of
+    the-row = rw e at r
+
+    found-row : c < n → At (column w t c) ≡ first (λ z. are (node z) (outcome z) x y) (λ _ z. At (value z)) Nothing 0 (span f 0 k)
+    found-row h = ap At (sym (table .values c (omega arith))) ∙ first-at _ (λ _ z. At (value z)) Nothing f k _ same-rows the-row (omega arith)
+
+    no-row : n ≤ c → Nothing ≡ first (λ z. are (node z) (outcome z) x y) (λ _ z. At (value z)) Nothing 0 (span f 0 k)
+    no-row h = first-none _ (λ _ z. At (value z)) Nothing f k _ same-rows the-row (omega arith)
+
+-- How many rows there are.
+abbrev pub route-rows : List ℕ → ℕ
+route-rows w = min 512 (getD w 5 0)
+
+abbrev pub limit-rows : List ℕ → ℕ
+limit-rows w = min 512 (getD w 6 0)
+
+abbrev pub declared-rows : List ℕ → ℕ
+declared-rows w = min 256 (getD w 8 0)
+
+module _ (w : List ℕ) where
+  pub route-row : (j : ℕ) → j < route-rows w → route-at w j ≡ record { node = column w 457 j; outcome = column w 969 j; target = column w 1481 j }
+  unfolding route-at
+  route-row j h = if-true _ _ _ (lt-ltb j 512 (omega arith))
+
+  pub limit-row : (j : ℕ) → j < limit-rows w → limit-at w j ≡ record { node = column w 1993 j; outcome = column w 2505 j; limit = column w 3017 j }
+  unfolding limit-at
+  limit-row j h = if-true _ _ _ (lt-ltb j 512 (omega arith))
+
+  pub declared-row : (j : ℕ) → j < declared-rows w → declared-at w j ≡ record { action = column w 3657 j; outcome = column w 3913 j }
+  unfolding declared-at
+  declared-row j h = if-true _ _ _ (lt-ltb j 256 (omega arith))
+
+  route-table : Table w 457 969 1481 (route-rows w) (route-at w) (λ x. x .node) (λ x. x .outcome) (λ x. x .target)
+  route-table =
+      record {
+        major-fits = omega arith;
+        minor-fits = omega arith;
+        nodes = λ j h. rw (route-row j h);
+        outcomes = λ j h. rw (route-row j h);
+        values = λ j h. rw (route-row j h);
+      }
+
+  limit-table : Table w 1993 2505 3017 (limit-rows w) (limit-at w) (λ x. x .node) (λ x. x .outcome) (λ x. x .limit)
+  limit-table =
+      record {
+        major-fits = omega arith;
+        minor-fits = omega arith;
+        nodes = λ j h. rw (limit-row j h);
+        outcomes = λ j h. rw (limit-row j h);
+        values = λ j h. rw (limit-row j h);
+      }
+
+  module _ (s : Sorted (workflow w)) where
+    pub routes-ascend : Ascending w 457 969 (route-rows w)
+    routes-ascend = table-ascends route-table (s .routes)
+
+    pub limits-ascend : Ascending w 1993 2505 (limit-rows w)
+    limits-ascend = table-ascends limit-table (s .limits)
+
+    pub declared-rise : Rising w 3657 (declared-rows w)
+    declared-rise =
+        record {
+          fits = omega arith;
+          rise = λ i j l h.
+              at-or-before i j l (λ q. rw q (omega arith))
+              (λ g. leb-true _ _ (rw (declared-row i (omega arith), declared-row j h) at (pairwise declared-before (declared-at w) (declared-rows w) (λ x y z. leb-on (x .action) (y .action) (z .action)) (s .declared) i j g h)));
+        }
+
+  module _ (x y : ℕ) {n c : ℕ} where
+    pub route-here : n ≡ route-rows w → c ≡ row-of w 457 969 n x y → c < n → At (column w 1481 c) ≡ route-of (workflow w) x y
+    unfolding route-of
+    route-here = found-row route-table x y
+
+    pub no-route-here : n ≡ route-rows w → c ≡ row-of w 457 969 n x y → n ≤ c → Nothing ≡ route-of (workflow w) x y
+    unfolding route-of
+    no-route-here = no-row route-table x y
+
+    pub limit-here : n ≡ limit-rows w → c ≡ row-of w 1993 2505 n x y → c < n → At (column w 3017 c) ≡ limit-of (workflow w) x y
+    unfolding limit-of
+    limit-here = found-row limit-table x y
+
+    pub no-limit-here : n ≡ limit-rows w → c ≡ row-of w 1993 2505 n x y → n ≤ c → Nothing ≡ limit-of (workflow w) x y
+    unfolding limit-of
+    no-limit-here = no-row limit-table x y

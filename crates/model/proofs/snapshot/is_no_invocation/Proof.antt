@@ -1,0 +1,13 @@
+use Rattle.model.specs.SnapshotLaws.{and-left, strict-and}
+use borrow.Author.Needs.{needs}
+use Rattle.model.proofs.snapshot.is_no_invocation.Statement.{statement}
+use Rattle.model.proofs.snapshot.is_no_invocation.Tie as tie
+
+keeps-error-requires : tie.Need-keeps-error-requires
+keeps-error-requires c κs = search needs
+
+returns : tie.Need-returns
+returns c = simp (← c .keeps-error .ensures) (simp and-left (simp strict-and))
+
+pub is-no-invocation-spec : {M : Type 1} → statement M
+is-no-invocation-spec = tie.close (tie.spec keeps-error-requires returns)

@@ -1,0 +1,13 @@
+use Rattle.model.specs.SnapshotLaws.{and-left, strict-and}
+use borrow.Author.Needs.{needs}
+use Rattle.model.proofs.snapshot.owned_by.Statement.{statement}
+use Rattle.model.proofs.snapshot.owned_by.Tie as tie
+
+error-fits-requires : tie.Need-error-fits-requires
+error-fits-requires c κs = search needs
+
+returns : tie.Need-returns
+returns c = simp (← c .error-fits .ensures) (simp and-left (simp strict-and))
+
+pub owned-by-spec : {M : Type 1} → statement M
+owned-by-spec = tie.close (tie.spec error-fits-requires returns)

@@ -1,0 +1,13 @@
+use Rattle.model.specs.SnapshotLaws.{strict-and, strict-or}
+use borrow.Author.Needs.{needs}
+use Rattle.model.proofs.snapshot.phase_fits.Statement.{statement}
+use Rattle.model.proofs.snapshot.phase_fits.Tie as tie
+
+element-copy-out-result : tie.Need-element-copy-out-result
+element-copy-out-result c = search needs
+
+returns : tie.Need-returns
+returns c = simp (strict-and, strict-or)
+
+pub phase-fits-spec : {M : Type 1} → statement M
+phase-fits-spec = tie.close (tie.spec element-copy-out-result returns)
