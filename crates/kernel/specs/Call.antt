@@ -2,10 +2,8 @@
 use mathlib.Core.Bool.{Bool, true, false, not}
 use mathlib.Core.List.{List, [], _∷_}
 use Prim.Native.Nat.{ℕ, _+_, _*_}
-use lib.ListN.{take}
 use lib.Dec.{ltb, leb, eqb}
-use Rattle.laws.specs.Bool.{if_then_else_, _and_, _or_}
-use Rattle.laws.specs.Every.{every}
+use Rattle.laws.specs.Bool.{if_then_else_}
 use Rattle.workflow.specs.View.{Workflow}
 use Rattle.workflow.specs.declared.Ceilings.{Ceilings}
 use Rattle.graph.specs.declared.Verdict.{Verdict}
@@ -13,7 +11,6 @@ use Rattle.graph.specs.declared.Verdict.the-variants.{Fine, Broken}
 use Rattle.graph.specs.Verdict.{rule, first-broken, verdict}
 use Rattle.model.specs.declared.State.{State}
 use Rattle.model.specs.declared.event.Event.{Event}
-use Rattle.model.specs.declared.event.Mapping.{Mapping}
 use Rattle.model.specs.declared.event.Mappings.{Mappings}
 use Rattle.model.specs.declared.event.Limits.{Limits}
 use Rattle.model.specs.declared.answer.Order.{Order}
@@ -24,6 +21,7 @@ use Rattle.model.specs.declared.moves.Next.the-variants.{Rest, Enter, Take, Con
 use Rattle.model.specs.Code.{none, largest, run-started, activity-result, invocation-resolved}
 use Rattle.model.specs.Record.{fresh}
 use Rattle.model.specs.Check.{consistent}
+use Rattle.model.specs.EventCheck.{event-fits}
 use Rattle.kernel.specs.declared.Call.{Call}
 use Rattle.kernel.specs.Drive.{Machine, driven}
 
@@ -49,18 +47,6 @@ pub data Answer : Type 0 where
   wants : (node field come-from : ℕ) → State → Answer
   refused : (number item : ℕ) → Answer
 
--- 21: sequence or time above 2^63 - 1, over 2 answers, or an unknown kind, status, resolution or kind of answer.
-abbrev pub in-range : (first last x : ℕ) → Bool
-in-range a b x = leb a x and leb x b
-
-unfoldable pub event-fits : Event → Mappings → Bool
-event-fits e m =
-    leb (e .sequence) largest and leb (e .«accepted_at») largest and leb (m .count) 2
-    and in-range 1 5 (e .kind)
-    and (not (eqb (e .kind) activity-result) or in-range 1 4 (e .status))
-    and (not (eqb (e .kind) invocation-resolved) or in-range 1 3 (e .resolution))
-    and every (λ x. in-range 1 3 (x .kind)) (take (m .count) (m .answers))
-
 -- 29 and 30: orders over the command limit, operations over theirs. A want and a refusal come before.
 abbrev pub orders : Order → ℕ
 orders Order.Nothing = 0
@@ -85,13 +71,18 @@ abbrev pub finish : Limits → Machine → Answer
 finish l x = finish-by (x .next) l x
 
 -- THE RECORD. Start without record: 22 if sequence isn't 1; other without record: 23; start with record: 24; else 25 run check, then 22 if not last + 1.
-abbrev pub is-start : Call → Bool
-is-start c = eqb (c .event .kind) run-started
+abbrev pub is-start : (kind : ℕ) → Bool
+is-start k = eqb k run-started
 
-unfoldable pub record-stage : Workflow → Call → Last → Verdict
-record-stage f c no-record = first-broken (rule 23 (is-start c) ∷ rule 22 (eqb (c .event .sequence) 1) ∷ [])
-record-stage f c (last s) =
-    first-broken (rule 24 (not (is-start c)) ∷ rule 25 (consistent f s) ∷ rule 22 (eqb (c .event .sequence) (s .«last_sequence» + 1)) ∷ [])
+unfoldable pub start-stage : (kind sequence : ℕ) → Verdict
+start-stage k q = first-broken (rule 23 (is-start k) ∷ rule 22 (eqb q 1) ∷ [])
+
+unfoldable pub next-stage : Workflow → State → (kind sequence : ℕ) → Verdict
+next-stage f s k q = first-broken (rule 24 (not (is-start k)) ∷ rule 25 (consistent f s) ∷ rule 22 (eqb q (s .«last_sequence» + 1)) ∷ [])
+
+abbrev pub record-stage : Workflow → Call → Last → Verdict
+record-stage f c no-record = start-stage (c .event .kind) (c .event .sequence)
+record-stage f c (last s) = next-stage f s (c .event .kind) (c .event .sequence)
 
 -- The stages before the step, in their order.
 unfoldable pub admission : Workflow → Last → Call → Verdict

@@ -33,9 +33,10 @@ use Rattle.graph.specs.Verdict.{rule-at, actions-verdict, first-broken, verdict
 use Rattle.model.specs.Record.{is-terminal}
 use Rattle.model.specs.Store.{stored, first-signal, removed, appended}
 use Rattle.model.specs.Step.{answer as mapping-answer, terminate, evaluate, schedule, enter-activity, arrive, enter, follow-to, route-limited, route, take-by, retry, complete-invocation, stick, fail-invocation, on-signal, on-success, on-failure, on-unknown, on-result, resolve-fail, on-resolved, on-ended, react}
+use Rattle.model.specs.EventCheck.{event-fits}
 use Rattle.model.specs.Check.{stands, consistent}
 use Rattle.kernel.specs.Drive.{operations-of, add-note, add-ending, counting, consume-by, advance-by, driven}
-use Rattle.kernel.specs.Call.{event-fits, finish-by, record-stage, admission, course-by, conclude, counted, transition}
+use Rattle.kernel.specs.Call.{finish-by, start-stage, next-stage, admission, course-by, conclude, counted, transition}
 use Rattle.kernel.specs.Demand3.{standing, history}
 
 -- THE SHEET. Format 2, visits 3, activations 10; node 0 activity of action 0, node 1 awaits signal 5 with a limit on outcome 4, node 2 complete, node 3 fail.
@@ -206,5 +207,5 @@ cases =
 
 pub joint-A : map (λ (c : Case). c .is) cases ≡ map (λ (c : Case). c .should-be) cases
 unfolding node to sheet event start signal result call plainly seen-of newest after sixty-four on-full no-order scheduled refusal again case cases params-numbers order-numbers
-    if_then_else_ _and_ _or_ rows span first every remove-at without settle node-of policy-of are route-of limit-of declares node-fits route-fits limit-fits declared-fits chained-from chained ascends form reserved declared-twice breaks-7 unrouted extra astray breaks-8 breaks-9 bad-limit breaks-12 pass repeated ends-of reached ending rule-at actions-verdict first-broken verdict is-terminal stored first-signal removed appended mapping-answer terminate evaluate schedule enter-activity arrive enter follow-to route-limited route take-by retry complete-invocation stick fail-invocation on-signal on-success on-failure on-unknown on-result resolve-fail on-resolved on-ended react stands consistent operations-of add-note add-ending counting consume-by advance-by driven event-fits finish-by record-stage admission course-by conclude counted transition standing history
+    if_then_else_ _and_ _or_ rows span first every remove-at without settle node-of policy-of are route-of limit-of declares node-fits route-fits limit-fits declared-fits chained-from chained ascends form reserved declared-twice breaks-7 unrouted extra astray breaks-8 breaks-9 bad-limit breaks-12 pass repeated ends-of reached ending rule-at actions-verdict first-broken verdict is-terminal stored first-signal removed appended mapping-answer terminate evaluate schedule enter-activity arrive enter follow-to route-limited route take-by retry complete-invocation stick fail-invocation on-signal on-success on-failure on-unknown on-result resolve-fail on-resolved on-ended react stands consistent operations-of add-note add-ending counting consume-by advance-by driven event-fits finish-by start-stage next-stage admission course-by conclude counted transition standing history
 joint-A = refl

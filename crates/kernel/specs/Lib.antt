@@ -5,3 +5,4 @@ pub mod Joint
 pub mod Held
 pub mod Hold
 pub mod Whole
+pub mod Admission

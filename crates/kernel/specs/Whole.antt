@@ -27,6 +27,7 @@ use Rattle.model.specs.declared.moves.Next.{Next}
 use Rattle.model.specs.declared.moves.Next.the-variants.{Rest, Enter, Take, Consume, Wants, Refuse}
 use Rattle.model.specs.Code.{none, largest, waiting, running, run-completed, run-failed}
 use Rattle.model.specs.Record.{visits-of, is-terminal, seen, fresh}
+use Rattle.model.specs.EventCheck.{event-fits}
 use Rattle.model.specs.Check.{is-no-invocation, terminal-fits, waits, works, live-fits, consistent, stands}
 use Rattle.model.specs.Step.{apply}
 use Rattle.model.specs.Counts.{times}
@@ -35,7 +36,7 @@ use Rattle.model.specs.Tidy as Tidy
 use Rattle.model.specs.Keep.{Owner, Ready}
 use Rattle.kernel.specs.Drive.{Machine, driven}
 use Rattle.kernel.specs.declared.Call.{Call}
-use Rattle.kernel.specs.Call.{Accepted, Answer, next, wants, refused, Last, no-record, last, event-fits, is-start, record-stage, admission, given, Course, away, stepped, course-by, course, finish-by, finish, conclude, counted, transition}
+use Rattle.kernel.specs.Call.{Accepted, Answer, next, wants, refused, Last, no-record, last, is-start, start-stage, next-stage, record-stage, admission, given, Course, away, stepped, course-by, course, finish-by, finish, conclude, counted, transition}
 use Rattle.kernel.specs.Demand3.{Entry, standing-after, standing, made, history, Done, done-by, accepted, signals, in-store, endings, Fate, no-signal, still-stored, has-ended, counts, Reports, Not-26, Demand3, demand-3}
 use Rattle.kernel.specs.Held.{need, Holds, Held, held-driven, driven-frozen, driven-hears}
 use Rattle.kernel.specs.Hold.{Fact, History, fresh-history, one-more}
@@ -74,7 +75,7 @@ mild-verdict : (f : Workflow) (c : Call) → Mild (verdict f (c .ceilings))
 mild-verdict f c = record { mild = λ k i e. let l = verdict-low f (c .ceilings) k i e in (l .0, omega (arith, l .1)) }
 
 mild-record : (f : Workflow) (c : Call) (r : Last) → Mild (record-stage f c r)
-unfolding record-stage
+unfolding start-stage next-stage
 mild-record f c no-record = mild-first _ (mild-rule 23 _ (omega arith) (omega arith), (mild-rule 22 _ (omega arith) (omega arith), tt))
 mild-record f c (last s) =
     mild-first _ (mild-rule 24 _ (omega arith) (omega arith), (mild-rule 25 _ (omega arith) (omega arith), (mild-rule 22 _ (omega arith) (omega arith), tt)))
@@ -129,11 +130,11 @@ ready : (f : Workflow) (ds : List Done) (s : State) → History f ds s → s .«
 ready f ds s i h o = record { slots = i .slots; nodes = i .nodes; room = h; counts = i .counts; owner = o }
 
 begins : (f : Workflow) (ds : List Done) (r : Last) (c : Call) → Inv f ds r → Admitted f r c → Begins f (given r c) (c .event)
-unfolding record-stage
+unfolding start-stage next-stage
 begins f ds no-record c i a =
     let u = in-time (c .event) (c .mappings) (a .event) in
-    let g = all-fine (rule 23 (is-start c) ∷ rule 22 (eqb (c .event .sequence) 1) ∷ []) (a .stage) in
-    let z : is-start c ≡ true = rule-fine 23 _ (g .0) in
+    let g = all-fine (rule 23 (is-start (c .event .kind)) ∷ rule 22 (eqb (c .event .sequence) 1) ∷ []) (a .stage) in
+    let z : is-start (c .event .kind) ≡ true = rule-fine 23 _ (g .0) in
     let s = fresh (c .event .input) in
     record {
       ready = ready f ds s (i (c .event .input)) (omega arith) (λ h. absurd (false≢true (sym h)));
@@ -145,8 +146,8 @@ begins f ds no-record c i a =
     }
 begins f ds (last s) c i a =
     let u = in-time (c .event) (c .mappings) (a .event) in
-    let g = all-fine (rule 24 (not (is-start c)) ∷ rule 25 (consistent f s) ∷ rule 22 (eqb (c .event .sequence) (s .«last_sequence» + 1)) ∷ []) (a .stage) in
-    let z : is-start c ≡ false = not-true _ (rule-fine 24 _ (g .0)) in
+    let g = all-fine (rule 24 (not (is-start (c .event .kind))) ∷ rule 25 (consistent f s) ∷ rule 22 (eqb (c .event .sequence) (s .«last_sequence» + 1)) ∷ []) (a .stage) in
+    let z : is-start (c .event .kind) ≡ false = not-true _ (rule-fine 24 _ (g .0)) in
     let t = Tidy.tidy-of f s (i .slots) (i .nodes) (i .results-long) (i .streaks-long) (rule-fine 25 _ (g .1 .0)) in
     record {
       ready = ready f ds s i (t .0 .store .room) (λ h. owner f s h (t .1));

@@ -1,7 +1,7 @@
 // A call. The definition is in specs/.
 use graph::Verdict;
+use graph::held;
 use model::State;
-use model::code;
 use model::event::Event;
 use model::event::Limits;
 use model::event::Mappings;
@@ -11,8 +11,8 @@ ghost use mathlib.Core.Path.{_≡_};
 ghost use Prim.Native.Nat.{_+_};
 ghost use lib.Dec.{eqb};
 ghost use Rattle.workflow.specs.View.{workflow};
-ghost use Rattle.graph.specs.Verdict.{rule, verdict};
-ghost use Rattle.kernel.specs.Call.{Last, last, no-record, given-record, record-stage, admission, verdict-number};
+ghost use Rattle.graph.specs.Verdict.{verdict};
+ghost use Rattle.kernel.specs.Call.{given-record, start-stage, next-stage, admission, verdict-number};
 
 // What a call carries beside the sheet and the record.
 pub struct Call {
@@ -22,18 +22,7 @@ pub struct Call {
     pub mappings: Mappings,
 }
 
-// A rule without an item.
-fn held(number: u32, holds: bool) -> Verdict
-    ensures { λ r. ⌜ r ≡ rule number holds ⌝ }
-{
-    if holds {
-        return Verdict::Fine;
-    }
-    Verdict::Broken {
-        rule: number,
-        item: code::NONE,
-    }
-}
+const RUN_STARTED: u32 = 1;
 
 // The sequence number is the next one.
 fn is_next(sequence: u64, last: u64) -> bool
@@ -43,4 +32,74 @@ fn is_next(sequence: u64, last: u64) -> bool
         return false;
     }
     sequence - 1 == last
+}
+
+// Without a record: 23, 22.
+fn start_stage(kind: u32, sequence: u64) -> Verdict
+    ensures { λ r. ⌜ r ≡ start-stage kind sequence ⌝ }
+{
+    let start = held(23, kind == RUN_STARTED);
+    if let Verdict::Broken { rule, item } = start {
+        return Verdict::Broken { rule, item };
+    }
+    held(22, sequence == 1)
+}
+
+// With a record: 24, 25, 22.
+fn next_stage(w: &[u32; NUMBERS], s: State, kind: u32, sequence: u64) -> Verdict
+    ensures { λ r. ⌜ r ≡ next-stage (workflow (now (w .entry))) s kind sequence ⌝ }
+{
+    let other = held(24, kind != RUN_STARTED);
+    if let Verdict::Broken { rule, item } = other {
+        return Verdict::Broken { rule, item };
+    }
+    let check = held(25, s.consistent(w));
+    if let Verdict::Broken { rule, item } = check {
+        return Verdict::Broken { rule, item };
+    }
+    held(22, is_next(sequence, s.last_sequence))
+}
+
+// The stages of a call before its step: sheet, event, record. Where there is no record, s is not looked at.
+pub fn admit(w: &[u32; NUMBERS], has_record: bool, s: State, c: Call) -> Verdict
+    ensures { λ r. ⌜ r ≡ admission (workflow (now (w .entry))) (given-record «has_record» s) c ⌝ }
+{
+    let sheet = graph::validate(w, c.ceilings);
+    if let Verdict::Broken { rule, item } = sheet {
+        return Verdict::Broken { rule, item };
+    }
+    let event = held(21, model::snapshot::event_fits(c.event, c.mappings));
+    if let Verdict::Broken { rule, item } = event {
+        return Verdict::Broken { rule, item };
+    }
+    if has_record {
+        return next_stage(w, s, c.event.kind, c.event.sequence);
+    }
+    start_stage(c.event.kind, c.event.sequence)
+}
+
+// The verdict on a sheet for hosts: 0, or 256 times the refusal's number and its item.
+#[no_mangle]
+pub extern "C" fn sheet_verdict(
+    w: &[u32; NUMBERS],
+    nodes: u32,
+    visits: u32,
+    activations: u32,
+    attempts: u32,
+) -> u64
+    ensures { λ r. ⌜ r ≡ verdict-number (verdict (workflow (now (w .entry))) (record { nodes = nodes; visits = visits; activations = activations; attempts = attempts })) ⌝ }
+{
+    let verdict = graph::validate(
+        w,
+        Ceilings {
+            nodes,
+            visits,
+            activations,
+            attempts,
+        },
+    );
+    match verdict {
+        Verdict::Fine => 0,
+        Verdict::Broken { rule, item } => (rule as u64) * 256 + (item as u64),
+    }
 }

@@ -11,3 +11,4 @@ pub mod Cost
 pub mod Keep
 pub mod EventCheck
 pub mod SnapshotLaws
+pub mod EnterLaws

@@ -1,0 +1,368 @@
+// The moves that enter a node and order an activity's first attempt.
+use crate::ErrorInfo;
+use crate::InvocationState;
+use crate::Kept;
+use crate::Output;
+use crate::Position;
+use crate::RunResult;
+use crate::State;
+use crate::Visits;
+use crate::answer::Ending;
+use crate::answer::Note;
+use crate::answer::Order;
+use crate::answer::Params;
+use crate::answer::ScheduleActivity;
+use crate::code;
+use crate::event::Evaluated;
+use crate::event::Mappings;
+use crate::moves::Move;
+use crate::moves::Next;
+use workflow::Found;
+use workflow::NUMBERS;
+ghost use mathlib.Core.Path.{_≡_};
+ghost use Prim.Native.Nat.{_+_, _<_};
+ghost use lib.ListN.{getD};
+ghost use Rattle.workflow.specs.View.{workflow};
+ghost use Rattle.model.specs.Record.{no-visits};
+ghost use Rattle.model.specs.Step.{no-note, no-ending, still, answer, terminate, schedule, enter-activity, enter};
+ghost use Rattle.model.specs.EnterLaws.{value-of, halted, enter-with-params, enter-complete};
+
+// Kinds of mapping answer.
+const VALUE: u32 = 1;
+
+const FAULT: u32 = 2;
+
+// The field of a want.
+const FIELD_INPUT: u32 = 0;
+
+const FIELD_PARAMS: u32 = 1;
+
+const FIELD_OUTPUT: u32 = 2;
+
+// The kernel's own error codes.
+const VISITS_EXCEEDED: u32 = 1;
+
+const ACTIVATIONS_EXCEEDED: u32 = 2;
+
+// Refusals: a node that the sheet lacks, and a mapping value that can't be encoded.
+const ASTRAY: u32 = 0;
+
+const UNENCODABLE: u32 = 28;
+
+fn no_note() -> Note
+    ensures { λ r. ⌜ r ≡ no-note ⌝ }
+{
+    Note {
+        code: 0,
+        node: 0,
+        a: 0,
+        b: 0,
+        c: 0,
+    }
+}
+
+fn no_ending() -> Ending
+    ensures { λ r. ⌜ r ≡ no-ending ⌝ }
+{
+    Ending {
+        sequence: 0,
+        ending: 0,
+    }
+}
+
+// Nothing but the record and what comes next.
+fn still(state: State, next: Next) -> Move
+    ensures { λ r. ⌜ r ≡ still state next ⌝ }
+{
+    Move {
+        state: state,
+        next: next,
+        note: no_note(),
+        ending: no_ending(),
+        order: Order::Nothing,
+        answers: 0,
+    }
+}
+
+// A count below a limit, and one more.
+fn one_more(count: u32, limit: u32) -> u32
+    requires { ⌜ count < limit ⌝ }
+    ensures { λ r. ⌜ r ≡ count + 1 ⌝ }
+{
+    count + 1
+}
+
+// The visits of a node; none past the slots there are.
+fn visits_at(visits: [Visits; 64], node: u32) -> Visits
+    ensures { λ r. ⌜ r ≡ getD visits node no-visits ⌝ }
+{
+    let n = node as usize;
+    if n < 64 {
+        return visits[n];
+    }
+    Visits { count: 0 }
+}
+
+impl Mappings {
+    // The i-th mapping answer of a call.
+    pub fn answer(self, i: u32) -> Evaluated
+        ensures { λ r. ⌜ r ≡ answer self i ⌝ }
+    {
+        let n = i as usize;
+        if self.count <= i {
+            return Evaluated::Lacking;
+        }
+        if 2 <= n {
+            return Evaluated::Unencodable;
+        }
+        let x = self.answers[n];
+        if x.kind == VALUE {
+            return Evaluated::Value(x.value);
+        }
+        if x.kind == FAULT {
+            return Evaluated::Fault {
+                code: x.code,
+                detail: x.detail,
+            };
+        }
+        Evaluated::Unencodable
+    }
+}
+
+impl Evaluated {
+    // The value, if it is one.
+    fn value(self) -> Found
+        ensures { λ r. ⌜ r ≡ value-of self ⌝ }
+    {
+        match self {
+            Evaluated::Value(x) => Found::At(x),
+            Evaluated::Fault { code: _, detail: _ } => Found::Nothing,
+            Evaluated::Unencodable => Found::Nothing,
+            Evaluated::Lacking => Found::Nothing,
+        }
+    }
+}
+
+impl State {
+    // The run fails.
+    pub fn terminate(mut self, w: &[u32; NUMBERS], error: ErrorInfo) -> Move
+        ensures { λ r. ⌜ r ≡ terminate (workflow (now (w .entry))) self error ⌝ }
+    {
+        let result = RunResult {
+            output: Output::Error(error),
+        };
+        self = self.finished(code::RUN_FAILED, result);
+        still(self, Next::Rest)
+    }
+
+    // The first attempt of an activity that was entered is ordered.
+    pub fn schedule(mut self, w: &[u32; NUMBERS], node: u32, input: u32, params: Params) -> Move
+        ensures { λ r. ⌜ r ≡ schedule (workflow (now (w .entry))) self node input params ⌝ }
+    {
+        let visits = self.visits;
+        let visit = visits_at(visits, node).count;
+        let row = workflow::node_of(w, node);
+        let position = Position {
+            node: node,
+            visit: visit,
+        };
+        let invocation = InvocationState {
+            phase: code::SCHEDULED,
+            node: node,
+            visit: visit,
+            action: row.action,
+            attempt: 1,
+            input: input,
+            error: Kept::Nothing,
+        };
+        let ordered = ScheduleActivity {
+            not_before: self.last_accepted_at,
+            node: node,
+            visit: visit,
+            action: row.action,
+            attempt: 1,
+            input: input,
+            params: params,
+        };
+        self.status = code::RUNNING;
+        self.position = position;
+        self.invocation = invocation;
+        Move {
+            state: self,
+            next: Next::Rest,
+            note: no_note(),
+            ending: no_ending(),
+            order: Order::Schedule(ordered),
+            answers: 0,
+        }
+    }
+
+    // A mapping that has no value: a fault fails the run at that node, else the call goes no further.
+    fn halt(
+        self,
+        w: &[u32; NUMBERS],
+        answer: Evaluated,
+        node: u32,
+        field: u32,
+        come_from: u32,
+        read: u32,
+    ) -> Move
+        ensures { λ r. ⌜ r ≡ halted (workflow (now (w .entry))) answer self node field «come_from» read ⌝ }
+    {
+        match answer {
+            Evaluated::Value(_) => still(self, Next::Rest),
+            Evaluated::Fault { code, detail } => {
+                let error = ErrorInfo {
+                    code: code,
+                    node: node,
+                    detail: detail,
+                };
+                let mut failed = self.terminate(w, error);
+                failed.answers = read;
+                failed
+            }
+            Evaluated::Unencodable => still(self, Next::Refuse(UNENCODABLE)),
+            Evaluated::Lacking => still(
+                self,
+                Next::Wants {
+                    node: node,
+                    field: field,
+                    from: come_from,
+                },
+            ),
+        }
+    }
+
+    // An activity needs its input, then its params if any.
+    fn enter_activity(
+        self,
+        w: &[u32; NUMBERS],
+        node: u32,
+        come_from: u32,
+        mappings: Mappings,
+    ) -> Move
+        ensures { λ r. ⌜ r ≡ enter-activity (workflow (now (w .entry))) self node «come_from» mappings ⌝ }
+    {
+        let answer = mappings.answer(0);
+        let Found::At(input) = answer.value() else {
+            return self.halt(w, answer, node, FIELD_INPUT, come_from, 1);
+        };
+        let row = workflow::node_of(w, node);
+        if row.has_params == 1 {
+            return self.enter_with_params(w, node, come_from, mappings, input);
+        }
+        let mut ordered = self.schedule(w, node, input, Params::Nothing);
+        ordered.answers = 1;
+        ordered
+    }
+
+    // The params of an activity whose input is known.
+    fn enter_with_params(
+        self,
+        w: &[u32; NUMBERS],
+        node: u32,
+        come_from: u32,
+        mappings: Mappings,
+        input: u32,
+    ) -> Move
+        ensures { λ r. ⌜ r ≡ enter-with-params (workflow (now (w .entry))) self node «come_from» mappings input ⌝ }
+    {
+        let answer = mappings.answer(1);
+        let Found::At(params) = answer.value() else {
+            return self.halt(w, answer, node, FIELD_PARAMS, come_from, 2);
+        };
+        let mut ordered = self.schedule(w, node, input, Params::Handle(params));
+        ordered.answers = 2;
+        ordered
+    }
+
+    // A complete node needs its output.
+    fn enter_complete(
+        mut self,
+        w: &[u32; NUMBERS],
+        node: u32,
+        come_from: u32,
+        mappings: Mappings,
+    ) -> Move
+        ensures { λ r. ⌜ r ≡ enter-complete (workflow (now (w .entry))) self node «come_from» mappings ⌝ }
+    {
+        let answer = mappings.answer(0);
+        let Found::At(output) = answer.value() else {
+            return self.halt(w, answer, node, FIELD_OUTPUT, come_from, 1);
+        };
+        let result = RunResult {
+            output: Output::Handle(output),
+        };
+        self = self.finished(code::RUN_COMPLETED, result);
+        let mut done = still(self, Next::Rest);
+        done.answers = 1;
+        done
+    }
+
+    // Entering tests visits, then activations, then adds one to both; the rest is by the node's kind.
+    pub fn enter(
+        mut self,
+        w: &[u32; NUMBERS],
+        node: u32,
+        come_from: u32,
+        mappings: Mappings,
+    ) -> Move
+        ensures { λ r. ⌜ r ≡ enter (workflow (now (w .entry))) self node «come_from» mappings ⌝ }
+    {
+        let n = node as usize;
+        if workflow::capped(w[workflow::NODE_COUNT], workflow::NODES) <= n {
+            return still(self, Next::Refuse(ASTRAY));
+        }
+        let visits = self.visits[n].count;
+        if w[workflow::MAX_VISITS_PER_NODE] <= visits {
+            let error = ErrorInfo {
+                code: VISITS_EXCEEDED,
+                node: node,
+                detail: 0,
+            };
+            return self.terminate(w, error);
+        }
+        if w[workflow::MAX_ACTIVATIONS] <= self.activations {
+            let error = ErrorInfo {
+                code: ACTIVATIONS_EXCEEDED,
+                node: node,
+                detail: 0,
+            };
+            return self.terminate(w, error);
+        }
+        let visit = one_more(visits, w[workflow::MAX_VISITS_PER_NODE]);
+        let activations = one_more(self.activations, w[workflow::MAX_ACTIVATIONS]);
+        self.visits[n] = Visits { count: visit };
+        self.activations = activations;
+        let row = workflow::node_of(w, node);
+        if row.kind == code::ACTIVITY {
+            return self.enter_activity(w, node, come_from, mappings);
+        }
+        if row.kind == code::AWAIT_SIGNAL {
+            let position = Position {
+                node: node,
+                visit: self.visits[n].count,
+            };
+            self.status = code::WAITING;
+            self.position = position;
+            self.invocation = InvocationState::none();
+            return Move {
+                state: self,
+                next: Next::Consume,
+                note: no_note(),
+                ending: no_ending(),
+                order: Order::Nothing,
+                answers: 0,
+            };
+        }
+        if row.kind == code::COMPLETE {
+            return self.enter_complete(w, node, come_from, mappings);
+        }
+        let error = ErrorInfo {
+            code: row.code,
+            node: node,
+            detail: row.detail,
+        };
+        self.terminate(w, error)
+    }
+}
