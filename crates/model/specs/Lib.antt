@@ -12,3 +12,4 @@ pub mod Keep
 pub mod EventCheck
 pub mod SnapshotLaws
 pub mod EnterLaws
+pub mod MachineLaws

@@ -3,6 +3,8 @@ pub mod answer;
 pub mod code;
 pub mod enter;
 pub mod event;
+pub mod events;
+pub mod machine;
 pub mod moves;
 pub mod snapshot;
 

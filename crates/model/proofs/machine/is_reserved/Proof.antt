@@ -1,0 +1,15 @@
+use borrow.Author.Tests.{eq-eqb, ne-eqb}
+use Rattle.laws.specs.Bool.{_and_}
+use Rattle.model.proofs.machine.is_reserved.Statement.{statement}
+use Rattle.model.proofs.machine.is_reserved.Tie as tie
+
+returns : tie.Need-returns
+unfolding _and_
+returns c = simp (eq-eqb _ _ (c .if1 .taken))
+
+returns-2 : tie.Need-returns-2
+unfolding _and_
+returns-2 c = simp (ne-eqb _ _ (c .if1 .left))
+
+pub is-reserved-spec : {M : Type 1} → statement M
+is-reserved-spec = tie.close (tie.spec returns returns-2)

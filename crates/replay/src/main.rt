@@ -1,0 +1,290 @@
+// Replays the recorded answers of the original (oracle/sample/calls.txt, in the lines of docs/NUMBERS.md): each call is
+// judged up to its step, and the verdict is compared with the recorded answer.
+mod decode;
+
+use graph::Verdict;
+
+// What the reader of the lines is at: the number it is in, and the place in the array that it reads.
+pub struct Reader {
+    pub number: u64,
+    pub inside: bool,
+    pub open: bool,
+    pub at: u32,
+    pub kind: u64,
+    pub left: u64,
+    pub index: u64,
+    pub calls: u64,
+    pub agree: u64,
+    pub refused: u64,
+}
+
+const KIND: u32 = 0;
+
+const COUNT: u32 = 1;
+
+const INDEX: u32 = 2;
+
+const VALUE: u32 = 3;
+
+const SHEET: usize = 4169;
+
+const CALL: usize = 38;
+
+const RECORD: usize = 918;
+
+// Of an answer only its kind and the two numbers behind it are looked at.
+const ANSWER: usize = 3;
+
+fn clear(
+    kind: u64,
+    sheet: &mut [u32; SHEET],
+    call: &mut [u64; CALL],
+    record: &mut [u64; RECORD],
+    answer: &mut [u64; ANSWER],
+) {
+    if kind == 1 {
+        *sheet = [0; SHEET];
+        return;
+    }
+    if kind == 2 {
+        *call = [0; CALL];
+        return;
+    }
+    if kind == 3 {
+        *record = [0; RECORD];
+        return;
+    }
+    *answer = [0; ANSWER];
+}
+
+fn store(
+    kind: u64,
+    index: u64,
+    value: u64,
+    sheet: &mut [u32; SHEET],
+    call: &mut [u64; CALL],
+    record: &mut [u64; RECORD],
+    answer: &mut [u64; ANSWER],
+) {
+    if 4169 <= index {
+        return;
+    }
+    let i = index as usize;
+    if kind == 1 {
+        sheet[i] = (value % 0x1_0000_0000) as u32;
+        return;
+    }
+    if kind == 2 {
+        if i < CALL {
+            call[i] = value;
+        }
+        return;
+    }
+    if kind == 3 {
+        if i < RECORD {
+            record[i] = value;
+        }
+        return;
+    }
+    if i < ANSWER {
+        answer[i] = value;
+    }
+}
+
+// The recorded answer, as far as the stages before the step give it: 26 and the later refusals come behind them.
+fn recorded(answer: &[u64; ANSWER]) -> Verdict {
+    if answer[0] != 3 {
+        return Verdict::Fine;
+    }
+    if 26 <= answer[1] {
+        return Verdict::Fine;
+    }
+    Verdict::Broken {
+        rule: (answer[1] % 256) as u32,
+        item: (answer[2] % 256) as u32,
+    }
+}
+
+fn same(a: Verdict, b: Verdict) -> bool {
+    match a {
+        Verdict::Fine => match b {
+            Verdict::Fine => true,
+            Verdict::Broken { rule: _, item: _ } => false,
+        },
+        Verdict::Broken { rule, item } => match b {
+            Verdict::Fine => false,
+            Verdict::Broken { rule: r, item: i } => {
+                if rule == r {
+                    return item == i;
+                }
+                false
+            }
+        },
+    }
+}
+
+// The call that was read, judged.
+fn judged(
+    r: Reader,
+    sheet: &[u32; SHEET],
+    call: &[u64; CALL],
+    record: &[u64; RECORD],
+    answer: &[u64; ANSWER],
+) -> Reader {
+    let verdict = kernel::admit(
+        sheet,
+        call[7] == 1,
+        decode::state(record),
+        decode::call(call),
+    );
+    let expected = recorded(answer);
+    let mut next = r;
+    next.calls = std::num::wrapping_add_u64(r.calls, 1);
+    if let Verdict::Broken { rule: _, item: _ } = expected {
+        next.refused = std::num::wrapping_add_u64(r.refused, 1);
+    }
+    if same(verdict, expected) {
+        next.agree = std::num::wrapping_add_u64(r.agree, 1);
+    }
+    next
+}
+
+// A number ends: it is an array's kind, its count, an offset or a value.
+fn token(
+    r: Reader,
+    sheet: &mut [u32; SHEET],
+    call: &mut [u64; CALL],
+    record: &mut [u64; RECORD],
+    answer: &mut [u64; ANSWER],
+) -> Reader {
+    let mut next = r;
+    next.number = 0;
+    next.inside = false;
+    if r.at == KIND {
+        clear(r.number, sheet, call, record, answer);
+        next.kind = r.number;
+        next.at = COUNT;
+        return next;
+    }
+    if r.at == COUNT {
+        next.left = r.number;
+        next.at = INDEX;
+        return next;
+    }
+    if r.at == INDEX {
+        next.index = r.number;
+        next.at = VALUE;
+        return next;
+    }
+    store(r.kind, r.index, r.number, sheet, call, record, answer);
+    next.left = std::num::wrapping_sub_u64(r.left, 1);
+    next.at = INDEX;
+    if next.left != 0 {
+        return next;
+    }
+    next.at = KIND;
+    if r.kind != 4 {
+        return next;
+    }
+    judged(next, sheet, call, record, answer)
+}
+
+// Ten times a number; nothing in the sample wraps.
+fn tenfold(n: u64) -> u64 {
+    let two = std::num::wrapping_add_u64(n, n);
+    let four = std::num::wrapping_add_u64(two, two);
+    std::num::wrapping_add_u64(std::num::wrapping_add_u64(four, four), two)
+}
+
+fn byte(
+    r: Reader,
+    b: u8,
+    sheet: &mut [u32; SHEET],
+    call: &mut [u64; CALL],
+    record: &mut [u64; RECORD],
+    answer: &mut [u64; ANSWER],
+) -> Reader {
+    if b'0' <= b {
+        let mut next = r;
+        next.number = std::num::wrapping_add_u64(tenfold(r.number), (b % 16) as u64);
+        next.inside = true;
+        return next;
+    }
+    if r.inside {
+        return token(r, sheet, call, record, answer);
+    }
+    r
+}
+
+fn bytes(
+    start: Reader,
+    text: &[u8],
+    sheet: &mut [u32; SHEET],
+    call: &mut [u64; CALL],
+    record: &mut [u64; RECORD],
+    answer: &mut [u64; ANSWER],
+) -> Reader {
+    let mut r = start;
+    let mut i: usize = 0;
+    while i < text.len() {
+        let b = text[i];
+        r = byte(r, b, sheet, call, record, answer);
+        i += 1;
+    }
+    r
+}
+
+// Reads once; the reader is closed where nothing came.
+fn some(
+    r: Reader,
+    sheet: &mut [u32; SHEET],
+    call: &mut [u64; CALL],
+    record: &mut [u64; RECORD],
+    answer: &mut [u64; ANSWER],
+) -> Reader {
+    let mut buffer = io::large_buffer();
+    let got = libc::read(0, &mut buffer);
+    if got <= 0 {
+        let mut last = r;
+        last.open = false;
+        return last;
+    }
+    let n = io::count(got, &buffer);
+    bytes(r, &buffer[..n], sheet, call, record, answer)
+}
+
+fn say(n: u64, what: &[u8]) {
+    io::print_decimal(1, n);
+    io::write_all(1, what);
+}
+
+fn main() {
+    let mut sheet = [0u32; SHEET];
+    let mut call = [0u64; CALL];
+    let mut record = [0u64; RECORD];
+    let mut answer = [0u64; ANSWER];
+    let mut r = Reader {
+        number: 0,
+        inside: false,
+        open: true,
+        at: KIND,
+        kind: 0,
+        left: 0,
+        index: 0,
+        calls: 0,
+        agree: 0,
+        refused: 0,
+    };
+    // A proved loop has to end: no input is as long as this.
+    let mut turns: u64 = 1_000_000;
+    while 0 < turns {
+        r = some(r, &mut sheet, &mut call, &mut record, &mut answer);
+        turns -= 1;
+        if !r.open {
+            turns = 0;
+        }
+    }
+    say(r.calls, b" calls, ");
+    say(r.refused, b" refused before the step, ");
+    say(r.agree, b" agree\n");
+}
