@@ -1,4 +1,4 @@
-// Replays the recorded answers of the original (oracle/sample/calls.txt, in the lines of docs/NUMBERS.md): each call is
+// Replays the recorded answers of the original (its stdin: oracle/sample/README.md, docs/NUMBERS.md): each call is
 // judged up to its step, and the verdict is compared with the recorded answer.
 mod decode;
 

@@ -204,7 +204,7 @@ fn collect(seed: u64) -> Sample {
 pub fn write(seed: u64) -> Result<bool, String> {
     std::panic::set_hook(Box::new(|_| {}));
     let sample = collect(seed);
-    let path = folder().join("calls.txt");
+    let path = folder().join("../../crates/replay/stdin");
     fs::write(&path, &sample.text).map_err(|why| format!("{path:?}: {why}"))?;
     let path = folder().join("README.md");
     fs::write(&path, readme(seed, &sample)).map_err(|why| format!("{path:?}: {why}"))?;
@@ -237,7 +237,7 @@ fn readme(seed: u64, sample: &Sample) -> String {
     }
     format!(
         "# The sample\n\n\
-        `calls.txt` holds {} calls with the original's answers, in the lines of `docs/NUMBERS.md` ({} bytes).\n\n\
+        `crates/replay/stdin` holds {} calls with the original's answers, in the lines of `docs/NUMBERS.md` ({} bytes).\n\n\
         Made by `oracle/target/release/harness sample {seed}` after `sh oracle/build`: the generator's calls of that\n\
         seed, the directed calls first (Joint A, 130 microsteps, 65 notes, 65 endings), each answered by the\n\
         original. Of {TRIED} calls those were chosen that show something not yet shown often enough ({} times for most\n\
@@ -257,7 +257,7 @@ fn readme(seed: u64, sample: &Sample) -> String {
 
 /// Reads the sample back and compares it with both.
 pub fn read() -> Result<bool, String> {
-    let path = folder().join("calls.txt");
+    let path = folder().join("../../crates/replay/stdin");
     let text = fs::read_to_string(&path).map_err(|why| format!("{path:?}: {why}"))?;
     let readings = wrong::readings();
     let mut told = vec![0; readings.len()];
