@@ -41,7 +41,8 @@ fn library(sheet: &[u32; 4169]) -> u64 {
 }
 
 fn reference(workflow: &Workflow) -> u64 {
-    plain::verdict(workflow, &CEILINGS).map_or(0, |(rule, item)| u64::from(rule) * 256 + u64::from(item))
+    plain::verdict(workflow, &CEILINGS)
+        .map_or(0, |(rule, item)| u64::from(rule) * 256 + u64::from(item))
 }
 
 /// Joint A of document 01.
@@ -63,28 +64,43 @@ fn joint() -> Workflow {
 fn nodes(f: &mut Workflow, rows: &[(u32, u32)]) {
     f.node_count = rows.len() as u32;
     for (slot, &(kind, has_limits)) in f.nodes.iter_mut().zip(rows) {
-        *slot = Node { kind, has_limits, ..Node::default() };
+        *slot = Node {
+            kind,
+            has_limits,
+            ..Node::default()
+        };
     }
 }
 
 fn routes(f: &mut Workflow, rows: &[(u32, u32, u32)]) {
     f.route_count = rows.len() as u32;
     for (slot, &(node, outcome, target)) in f.routes.iter_mut().zip(rows) {
-        *slot = Route { node, outcome, target };
+        *slot = Route {
+            node,
+            outcome,
+            target,
+        };
     }
 }
 
 fn limits(f: &mut Workflow, rows: &[(u32, u32, u32)]) {
     f.limit_count = rows.len() as u32;
     for (slot, &(node, outcome, limit)) in f.limits.iter_mut().zip(rows) {
-        *slot = Limit { node, outcome, limit };
+        *slot = Limit {
+            node,
+            outcome,
+            limit,
+        };
     }
 }
 
 fn actions(f: &mut Workflow, rows: &[(u32, u32)]) {
     f.action_count = rows.len() as u32;
     for (slot, &(effect, max_attempts)) in f.actions.iter_mut().zip(rows) {
-        *slot = Action { effect, max_attempts };
+        *slot = Action {
+            effect,
+            max_attempts,
+        };
     }
 }
 
@@ -161,42 +177,69 @@ fn refused() -> Vec<(u32, Workflow)> {
     vec![
         (20, with(&|f| f.declared[255].outcome = 255)),
         (1, with(&|f| f.format = 3)),
-        (3, with(&|f| {
-            *f = Workflow::empty();
-            f.format = 2;
-        })),
+        (
+            3,
+            with(&|f| {
+                *f = Workflow::empty();
+                f.format = 2;
+            }),
+        ),
         (5, with(&|f| f.start = 64)),
         (6, with(&|f| f.max_activations = 10001)),
         (16, with(&|f| f.actions[31].effect = 2)),
         (7, with(&|f| f.actions[31].max_attempts = 0)),
-        (8, with(&|f| {
-            let k = f.routes[..f.route_count as usize].iter().rposition(|x| x.node == last_activity).unwrap();
-            f.routes[k].outcome = 200;
-        })),
-        (9, with(&|f| {
-            let k = f.routes[..f.route_count as usize].iter().rposition(|x| x.node == 61).unwrap();
-            f.routes[k].target = 64;
-        })),
-        (12, with(&|f| {
-            let k = f.limit_count as usize - 1;
-            f.limits[k].limit = 1000;
-        })),
-        (14, with(&|f| {
-            for x in f.routes.iter_mut().filter(|x| x.node == 61 && x.target == 62) {
-                x.target = 63;
-            }
-        })),
-        (15, with(&|f| {
-            for x in f.routes.iter_mut().filter(|x| x.node == 62 && x.target == 63) {
-                x.target = 0;
-            }
-            for x in f.routes.iter_mut().filter(|x| x.node == 0 && x.outcome == 0) {
-                x.target = 63;
-            }
-            for x in f.routes.iter_mut().filter(|x| x.node == 0 && x.outcome == 5) {
-                x.target = 1;
-            }
-        })),
+        (
+            8,
+            with(&|f| {
+                let k = f.routes[..f.route_count as usize]
+                    .iter()
+                    .rposition(|x| x.node == last_activity)
+                    .unwrap();
+                f.routes[k].outcome = 200;
+            }),
+        ),
+        (
+            9,
+            with(&|f| {
+                let k = f.routes[..f.route_count as usize]
+                    .iter()
+                    .rposition(|x| x.node == 61)
+                    .unwrap();
+                f.routes[k].target = 64;
+            }),
+        ),
+        (
+            12,
+            with(&|f| {
+                let k = f.limit_count as usize - 1;
+                f.limits[k].limit = 1000;
+            }),
+        ),
+        (
+            14,
+            with(&|f| {
+                for x in f
+                    .routes
+                    .iter_mut()
+                    .filter(|x| x.node == 61 && x.target == 62)
+                {
+                    x.target = 63;
+                }
+            }),
+        ),
+        (
+            15,
+            with(&|f| {
+                let used = f.route_count as usize;
+                for x in &mut f.routes[..used] {
+                    if x.node == 62 {
+                        x.target = 62;
+                    } else if x.node == 61 && x.outcome == 5 {
+                        x.target = 63;
+                    }
+                }
+            }),
+        ),
     ]
 }
 
@@ -225,7 +268,11 @@ fn time(f: impl Fn() -> u64) -> f64 {
 
 fn show(name: &str, workflow: &Workflow) {
     let (ours, theirs) = least(workflow);
-    println!("| {name} | {} | {ours:.0} | {theirs:.0} | {:.2} |", workflow.route_count, ours / theirs);
+    println!(
+        "| {name} | {} | {ours:.0} | {theirs:.0} | {:.2} |",
+        workflow.route_count,
+        ours / theirs
+    );
 }
 
 fn main() {
