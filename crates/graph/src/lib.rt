@@ -1,8 +1,8 @@
 // The verdict on a sheet: the first broken rule with its item.
-pub mod form;
-pub mod reach;
-pub mod rules;
-pub mod search;
+mod form;
+mod reach;
+mod rules;
+mod search;
 
 use workflow::Ceilings;
 use workflow::FORMAT;
