@@ -111,7 +111,7 @@ fn declared(f: &mut Workflow, rows: &[(u32, u32)]) {
     }
 }
 
-/// A sheet of `n` nodes with about 8 routes, 8 limits and 4 declared outcomes for each: full at 64.
+/// A sheet of `n` nodes; at 64 it has 512 routes, 256 declared outcomes and a limit on every routed outcome but exhausted.
 fn full(n: u32) -> Workflow {
     let mut f = Workflow::empty();
     f.format = 2;
@@ -140,11 +140,12 @@ fn full(n: u32) -> Workflow {
                 limit_rows.push((i, outcome, 5));
             }
         } else {
-            for outcome in [1, 3, 4, 5, 6, 7] {
+            let most = if i < 14 { 9 } else { 8 };
+            for outcome in [1].into_iter().chain(3..=most) {
                 route_rows.push((i, outcome, if outcome == 4 { 0 } else { next }));
-            }
-            for outcome in [1, 4, 5, 6, 7] {
-                limit_rows.push((i, outcome, 5));
+                if outcome != 3 {
+                    limit_rows.push((i, outcome, 5));
+                }
             }
         }
     }
@@ -269,15 +270,16 @@ fn time(f: impl Fn() -> u64) -> f64 {
 fn show(name: &str, workflow: &Workflow) {
     let (ours, theirs) = least(workflow);
     println!(
-        "| {name} | {} | {ours:.0} | {theirs:.0} | {:.2} |",
+        "| {name} | {} | {} | {ours:.0} | {theirs:.0} | {:.2} |",
         workflow.route_count,
+        workflow.limit_count,
         ours / theirs
     );
 }
 
 fn main() {
-    println!("| Sheet | Routes | Library, ns | Plain Rust, ns | Ratio |");
-    println!("|---|---|---|---|---|");
+    println!("| Sheet | Routes | Limits | Library, ns | Plain Rust, ns | Ratio |");
+    println!("|---|---|---|---|---|---|");
     show("Joint A", &joint());
     for n in [8, 16, 32, 64] {
         show(&format!("{n} nodes"), &full(n));
