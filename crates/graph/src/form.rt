@@ -46,9 +46,9 @@ ghost use Rattle.graph.specs.Form.{counts-fit, node-fits, routes-at, rou
 ghost use Rattle.graph.specs.FormLaws.{nodes-formed, actions-formed, routes-formed, limits-formed, declared-formed, nodes-blank, routes-blank, limits-blank, actions-blank, declared-blank};
 
 // The kinds of node.
-const ACTIVITY: u32 = 1;
+pub const ACTIVITY: u32 = 1;
 
-const AWAIT_SIGNAL: u32 = 2;
+pub const AWAIT_SIGNAL: u32 = 2;
 
 const COMPLETE: u32 = 3;
 
@@ -137,7 +137,7 @@ fn declared_fits(w: &[u32; NUMBERS], x: Declared) -> bool
 }
 
 // A row of x and y may follow one of a and b.
-fn ascends(a: u32, b: u32, x: u32, y: u32) -> bool
+pub fn ascends(a: u32, b: u32, x: u32, y: u32) -> bool
     ensures { λ r. ⌜ r ≡ ascends a b x y ⌝ }
 {
     (a < x) | ((a == x) & (b < y))

@@ -1,5 +1,7 @@
 // Rules 1, 3, 5 to 9, 12 and 16 of a sheet whose form holds. A node's rows, and an action's, stand from `from` to `to`.
 use crate::Verdict;
+use crate::form::ACTIVITY;
+use crate::form::AWAIT_SIGNAL;
 use crate::search::rows_before;
 use crate::search::rows_end;
 use workflow::ACTION_COUNT;
@@ -48,10 +50,6 @@ ghost use Rattle.graph.specs.RulesLaws.{some-in, Outcomes, marked, unmar
 
 const WORKFLOW_FORMAT_0_2: u32 = 2;
 
-const ACTIVITY: u32 = 1;
-
-const AWAIT_SIGNAL: u32 = 2;
-
 const RECONCILABLE: u32 = 2;
 
 // Outcomes are below 255.
@@ -61,7 +59,7 @@ const OUTCOME_FAILED: usize = 2;
 
 const OUTCOME_EXHAUSTED: usize = 3;
 
-// OUTCOMES AS MARKS.
+// The outcomes of some rows as marks.
 
 // The outcomes in a part of a column.
 fn marks(w: &[u32; NUMBERS], column: usize, from: usize, to: usize) -> [bool; OUTCOMES]
@@ -100,84 +98,7 @@ fn has_unmarked(
     false
 }
 
-// A target of the part is no node.
-fn has_astray(w: &[u32; NUMBERS], nodes: u32, from: usize, to: usize) -> bool
-    requires { ⌜ to ≤ 512 ⌝ }
-    ensures { λ r. ⌜ r ≡ some-in from to (astray-at (now (w .entry)) nodes) ⌝ }
-{
-    let mut i = from;
-    while i < to {
-        if nodes <= w[ROUTE_TARGET + i] {
-            return true;
-        }
-        i += 1;
-    }
-    false
-}
-
-// An outcome of the rows is reserved or declared twice.
-fn is_declared_again(w: &[u32; NUMBERS], two: bool, from: usize, to: usize) -> bool
-    requires { ⌜ Outcomes (now w) 3913 from to ⌝ }
-    ensures { λ r. ⌜ r ≡ again (reserved-marks two) (span (column (now (w .entry)) 3913) from to) ⌝ }
-{
-    let mut m = [false; OUTCOMES];
-    m[OUTCOME_FAILED] = true;
-    m[OUTCOME_EXHAUSTED] = two;
-    let mut i = from;
-    while i < to {
-        let o = w[DECLARED_OUTCOME + i] as usize;
-        if m[o] {
-            return true;
-        }
-        m[o] = true;
-        i += 1;
-    }
-    false
-}
-
-// One more, that stays at the largest number.
-fn one_more(x: u32) -> u32
-    ensures { λ r. ⌜ r ≡ one-more x ⌝ }
-{
-    if x < 4294967295 { x + 1 } else { x }
-}
-
-fn is_out_of_range(most: u32, limit: u32) -> bool
-    ensures { λ r. ⌜ r ≡ out-of-range most limit ⌝ }
-{
-    (limit == 0) | (most < one_more(limit))
-}
-
-// A limit of the rows is out of range, or its outcome is not marked.
-fn has_bad_limit(
-    w: &[u32; NUMBERS],
-    m: &[bool; OUTCOMES],
-    most: u32,
-    from: usize,
-    to: usize,
-) -> bool
-    requires { ⌜ Outcomes (now w) 2505 from to × (to ≤ 512) ⌝ }
-    ensures { λ r. ⌜ r ≡ some-in from to (bad-row (now (w .entry)) (now (m .entry)) most) ⌝ }
-{
-    let mut i = from;
-    while i < to {
-        let o = w[LIMIT_OUTCOME + i] as usize;
-        if !m[o] | is_out_of_range(most, w[LIMIT_LIMIT + i]) {
-            return true;
-        }
-        i += 1;
-    }
-    false
-}
-
-// RULES OF THE WHOLE SHEET.
-
-// In 1 to the most.
-fn is_within(most: u32, x: u32) -> bool
-    ensures { λ r. ⌜ r ≡ within most x ⌝ }
-{
-    (0 < x) & (x <= most)
-}
+// Rules 1, 3, 5 and 6.
 
 // 1: a known format.
 pub fn has_format(w: &[u32; NUMBERS]) -> bool
@@ -205,28 +126,55 @@ pub fn lowest_with_params(w: &[u32; NUMBERS]) -> Found
     Found::Nothing
 }
 
-// 3: as many nodes as there may be.
+// In 1 to the most.
+fn is_within(most: u32, x: u32) -> bool
+    ensures { λ r. ⌜ r ≡ within most x ⌝ }
+{
+    (0 < x) & (x <= most)
+}
+
+// 3: there are nodes, and no more than there may be.
 pub fn has_nodes(w: &[u32; NUMBERS], c: Ceilings) -> bool
     ensures { λ r. ⌜ r ≡ within (c .nodes) (workflow (now (w .entry)) .node-count) ⌝ }
 {
     is_within(c.nodes, w[NODE_COUNT])
 }
 
-// 5: a start that is there.
+// 5: the start is there.
 pub fn has_start(w: &[u32; NUMBERS]) -> bool
     ensures { λ r. ⌜ r ≡ ltb (workflow (now (w .entry)) .start) (workflow (now (w .entry)) .node-count) ⌝ }
 {
     w[START] < w[NODE_COUNT]
 }
 
-// 6: limits in range.
+// 6: the limits are in range.
 pub fn has_limits(w: &[u32; NUMBERS], c: Ceilings) -> bool
     ensures { λ r. ⌜ r ≡ within (c .visits) (workflow (now (w .entry)) .max-visits-per-node) and within (c .activations) (workflow (now (w .entry)) .max-activations) ⌝ }
 {
     is_within(c.visits, w[MAX_VISITS_PER_NODE]) & is_within(c.activations, w[MAX_ACTIVATIONS])
 }
 
-// RULES 16 AND 7, action by action.
+// Rules 16 and 7, action by action.
+
+// An outcome of the rows is reserved, or declared by a row before.
+fn is_declared_again(w: &[u32; NUMBERS], two: bool, from: usize, to: usize) -> bool
+    requires { ⌜ Outcomes (now w) 3913 from to ⌝ }
+    ensures { λ r. ⌜ r ≡ again (reserved-marks two) (span (column (now (w .entry)) 3913) from to) ⌝ }
+{
+    let mut m = [false; OUTCOMES];
+    m[OUTCOME_FAILED] = true;
+    m[OUTCOME_EXHAUSTED] = two;
+    let mut i = from;
+    while i < to {
+        let o = w[DECLARED_OUTCOME + i] as usize;
+        if m[o] {
+            return true;
+        }
+        m[o] = true;
+        i += 1;
+    }
+    false
+}
 
 fn breaks_7(w: &[u32; NUMBERS], most: u32, action: u32, from: usize, to: usize) -> bool
     requires { ⌜ Declared-of (now w) action from to ⌝ }
@@ -292,7 +240,7 @@ pub fn actions_verdict(w: &[u32; NUMBERS], c: Ceilings) -> Verdict
     Verdict::Fine
 }
 
-// RULES 8, 9 AND 12, node by node.
+// Rule 8.
 
 // In format 2 a node routes exhausted only when it has loop limits.
 fn may_route_exhausted(w: &[u32; NUMBERS], node: u32) -> bool
@@ -339,6 +287,22 @@ fn has_extra(
     has_unmarked(w, ROUTE_OUTCOME, from, to, &known)
 }
 
+// A route of the part leads to no node.
+fn has_astray(w: &[u32; NUMBERS], nodes: u32, from: usize, to: usize) -> bool
+    requires { ⌜ to ≤ 512 ⌝ }
+    ensures { λ r. ⌜ r ≡ some-in from to (astray-at (now (w .entry)) nodes) ⌝ }
+{
+    let mut i = from;
+    while i < to {
+        if nodes <= w[ROUTE_TARGET + i] {
+            return true;
+        }
+        i += 1;
+    }
+    false
+}
+
+// The outcomes of an activity are not those of its action, or lead to no node.
 fn misroutes(w: &[u32; NUMBERS], node: u32, from: usize, to: usize, action: u32) -> bool
     requires { ⌜ Routes-of (now w) node from to ⌝ }
     ensures { λ r. ⌜ r ≡ misroutes (workflow (now (w .entry))) node action ⌝ }
@@ -369,6 +333,8 @@ fn breaks_8(w: &[u32; NUMBERS], node: u32, from: usize, to: usize) -> bool
     misroutes(w, node, from, to, x.action)
 }
 
+// Rule 9.
+
 // In format 2, exhausted is routed without loop limits.
 fn routes_exhausted(w: &[u32; NUMBERS], node: u32, from: usize, to: usize) -> bool
     requires { ⌜ Routes-of (now w) node from to ⌝ }
@@ -395,6 +361,45 @@ fn breaks_9(w: &[u32; NUMBERS], node: u32, from: usize, to: usize) -> bool
     has_astray(w, w[NODE_COUNT], from, to)
 }
 
+// Rule 12.
+
+// One more, that stays at the largest number.
+fn one_more(x: u32) -> u32
+    ensures { λ r. ⌜ r ≡ one-more x ⌝ }
+{
+    if x < 4294967295 { x + 1 } else { x }
+}
+
+// A limit that is 0 or not below the most visits.
+fn is_out_of_range(most: u32, limit: u32) -> bool
+    ensures { λ r. ⌜ r ≡ out-of-range most limit ⌝ }
+{
+    (limit == 0) | (most < one_more(limit))
+}
+
+// A limit of the part is out of range, or its outcome is not marked.
+fn has_bad_limit(
+    w: &[u32; NUMBERS],
+    m: &[bool; OUTCOMES],
+    most: u32,
+    from: usize,
+    to: usize,
+) -> bool
+    requires { ⌜ Outcomes (now w) 2505 from to × (to ≤ 512) ⌝ }
+    ensures { λ r. ⌜ r ≡ some-in from to (bad-row (now (w .entry)) (now (m .entry)) most) ⌝ }
+{
+    let mut i = from;
+    while i < to {
+        let o = w[LIMIT_OUTCOME + i] as usize;
+        if !m[o] | is_out_of_range(most, w[LIMIT_LIMIT + i]) {
+            return true;
+        }
+        i += 1;
+    }
+    false
+}
+
+// A loop limit is bad, or exhausted is not routed.
 fn misses(w: &[u32; NUMBERS], node: u32, from: usize, to: usize, first: usize, end: usize) -> bool
     requires { ⌜ Routes-of (now w) node from to × Limits-of (now w) node first end ⌝ }
     ensures { λ r. ⌜ r ≡ misses (workflow (now (w .entry))) node ⌝ }
@@ -427,6 +432,8 @@ fn breaks_12(w: &[u32; NUMBERS], node: u32, from: usize, to: usize) -> bool
     misses(w, node, from, to, first, end)
 }
 
+// The lowest node that breaks rule 8, 9 or 12.
+
 fn breaks(w: &[u32; NUMBERS], rule: u32, node: u32, from: usize, to: usize) -> bool
     requires { ⌜ Routes-of (now w) node from to ⌝ }
     ensures { λ r. ⌜ r ≡ breaks (workflow (now (w .entry))) rule node ⌝ }
@@ -440,7 +447,6 @@ fn breaks(w: &[u32; NUMBERS], rule: u32, node: u32, from: usize, to: usize) -> b
     breaks_12(w, node, from, to)
 }
 
-// The lowest node that breaks a rule.
 fn lowest_breaking(w: &[u32; NUMBERS], rule: u32) -> Found
     requires { ⌜ form (workflow (now w)) ≡ true ⌝ }
     ensures { λ r. ⌜ r ≡ lowest (workflow (now (w .entry)) .node-count) (breaks (workflow (now (w .entry))) rule) ⌝ }

@@ -1,4 +1,5 @@
 // Finding rows by binary search, once the form says that they are sorted.
+use crate::form::ascends;
 use workflow::Found;
 use workflow::LIMIT_COUNT;
 use workflow::LIMIT_LIMIT;
@@ -16,15 +17,7 @@ ghost use mathlib.Core.Path.{_≡_};
 ghost use Prim.Native.Nat.{_+_};
 ghost use Rattle.workflow.specs.View.{workflow};
 ghost use Rattle.workflow.specs.Lookup.{route-of, limit-of};
-ghost use Rattle.graph.specs.Form.{ascends};
 ghost use Rattle.graph.specs.SearchLaws.{rows-before, rows-below, row-of, Halved, Rising, Ascending, Sorted};
-
-// The row (a, b) stands before (x, y).
-fn ascends(a: u32, b: u32, x: u32, y: u32) -> bool
-    ensures { λ r. ⌜ r ≡ ascends a b x y ⌝ }
-{
-    (a < x) | ((a == x) & (b < y))
-}
 
 // How many of the first `count` rows stand before (x, y).
 pub fn rows_before(

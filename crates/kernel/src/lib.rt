@@ -2,6 +2,7 @@
 use graph::Verdict;
 use graph::held;
 use model::State;
+use model::code;
 use model::event::Event;
 use model::event::Limits;
 use model::event::Mappings;
@@ -22,8 +23,6 @@ pub struct Call {
     pub mappings: Mappings,
 }
 
-const RUN_STARTED: u32 = 1;
-
 // The sequence number is the next one.
 fn is_next(sequence: u64, last: u64) -> bool
     ensures { λ r. ⌜ r ≡ eqb sequence (last + 1) ⌝ }
@@ -38,7 +37,7 @@ fn is_next(sequence: u64, last: u64) -> bool
 fn start_stage(kind: u32, sequence: u64) -> Verdict
     ensures { λ r. ⌜ r ≡ start-stage kind sequence ⌝ }
 {
-    let start = held(23, kind == RUN_STARTED);
+    let start = held(23, kind == code::RUN_STARTED);
     if let Verdict::Broken { rule, item } = start {
         return Verdict::Broken { rule, item };
     }
@@ -49,7 +48,7 @@ fn start_stage(kind: u32, sequence: u64) -> Verdict
 fn next_stage(w: &[u32; NUMBERS], s: State, kind: u32, sequence: u64) -> Verdict
     ensures { λ r. ⌜ r ≡ next-stage (workflow (now (w .entry))) s kind sequence ⌝ }
 {
-    let other = held(24, kind != RUN_STARTED);
+    let other = held(24, kind != code::RUN_STARTED);
     if let Verdict::Broken { rule, item } = other {
         return Verdict::Broken { rule, item };
     }

@@ -17,6 +17,9 @@ use crate::event::Evaluated;
 use crate::event::Mappings;
 use crate::moves::Move;
 use crate::moves::Next;
+use crate::moves::no_ending;
+use crate::moves::no_note;
+use crate::moves::still;
 use workflow::Found;
 use workflow::NUMBERS;
 ghost use mathlib.Core.Path.{_≡_};
@@ -24,65 +27,8 @@ ghost use Prim.Native.Nat.{_+_, _<_};
 ghost use lib.ListN.{getD};
 ghost use Rattle.workflow.specs.View.{workflow};
 ghost use Rattle.model.specs.Record.{no-visits};
-ghost use Rattle.model.specs.Step.{no-note, no-ending, still, answer, terminate, schedule, enter-activity, enter};
+ghost use Rattle.model.specs.Step.{answer, terminate, schedule, enter-activity, enter};
 ghost use Rattle.model.specs.EnterLaws.{value-of, halted, enter-with-params, enter-complete};
-
-// Kinds of mapping answer.
-const VALUE: u32 = 1;
-
-const FAULT: u32 = 2;
-
-// The field of a want.
-const FIELD_INPUT: u32 = 0;
-
-const FIELD_PARAMS: u32 = 1;
-
-const FIELD_OUTPUT: u32 = 2;
-
-// The kernel's own error codes.
-const VISITS_EXCEEDED: u32 = 1;
-
-const ACTIVATIONS_EXCEEDED: u32 = 2;
-
-// Refusals: a node that the sheet lacks, and a mapping value that can't be encoded.
-const ASTRAY: u32 = 0;
-
-const UNENCODABLE: u32 = 28;
-
-fn no_note() -> Note
-    ensures { λ r. ⌜ r ≡ no-note ⌝ }
-{
-    Note {
-        code: 0,
-        node: 0,
-        a: 0,
-        b: 0,
-        c: 0,
-    }
-}
-
-fn no_ending() -> Ending
-    ensures { λ r. ⌜ r ≡ no-ending ⌝ }
-{
-    Ending {
-        sequence: 0,
-        ending: 0,
-    }
-}
-
-// Nothing but the record and what comes next.
-fn still(state: State, next: Next) -> Move
-    ensures { λ r. ⌜ r ≡ still state next ⌝ }
-{
-    Move {
-        state: state,
-        next: next,
-        note: no_note(),
-        ending: no_ending(),
-        order: Order::Nothing,
-        answers: 0,
-    }
-}
 
 // A count below a limit, and one more.
 fn one_more(count: u32, limit: u32) -> u32
@@ -116,10 +62,10 @@ impl Mappings {
             return Evaluated::Unencodable;
         }
         let x = self.answers[n];
-        if x.kind == VALUE {
+        if x.kind == code::VALUE {
             return Evaluated::Value(x.value);
         }
-        if x.kind == FAULT {
+        if x.kind == code::FAULT {
             return Evaluated::Fault {
                 code: x.code,
                 detail: x.detail,
@@ -221,7 +167,7 @@ impl State {
                 failed.answers = read;
                 failed
             }
-            Evaluated::Unencodable => still(self, Next::Refuse(UNENCODABLE)),
+            Evaluated::Unencodable => still(self, Next::Refuse(code::UNENCODABLE)),
             Evaluated::Lacking => still(
                 self,
                 Next::Wants {
@@ -245,7 +191,7 @@ impl State {
     {
         let answer = mappings.answer(0);
         let Found::At(input) = answer.value() else {
-            return self.halt(w, answer, node, FIELD_INPUT, come_from, 1);
+            return self.halt(w, answer, node, code::FIELD_INPUT, come_from, 1);
         };
         let row = workflow::node_of(w, node);
         if row.has_params == 1 {
@@ -269,7 +215,7 @@ impl State {
     {
         let answer = mappings.answer(1);
         let Found::At(params) = answer.value() else {
-            return self.halt(w, answer, node, FIELD_PARAMS, come_from, 2);
+            return self.halt(w, answer, node, code::FIELD_PARAMS, come_from, 2);
         };
         let mut ordered = self.schedule(w, node, input, Params::Handle(params));
         ordered.answers = 2;
@@ -288,7 +234,7 @@ impl State {
     {
         let answer = mappings.answer(0);
         let Found::At(output) = answer.value() else {
-            return self.halt(w, answer, node, FIELD_OUTPUT, come_from, 1);
+            return self.halt(w, answer, node, code::FIELD_OUTPUT, come_from, 1);
         };
         let result = RunResult {
             output: Output::Handle(output),
@@ -311,12 +257,12 @@ impl State {
     {
         let n = node as usize;
         if workflow::capped(w[workflow::NODE_COUNT], workflow::NODES) <= n {
-            return still(self, Next::Refuse(ASTRAY));
+            return still(self, Next::Refuse(code::ASTRAY));
         }
         let visits = self.visits[n].count;
         if w[workflow::MAX_VISITS_PER_NODE] <= visits {
             let error = ErrorInfo {
-                code: VISITS_EXCEEDED,
+                code: code::VISITS_EXCEEDED,
                 node: node,
                 detail: 0,
             };
@@ -324,7 +270,7 @@ impl State {
         }
         if w[workflow::MAX_ACTIVATIONS] <= self.activations {
             let error = ErrorInfo {
-                code: ACTIVATIONS_EXCEEDED,
+                code: code::ACTIVATIONS_EXCEEDED,
                 node: node,
                 detail: 0,
             };

@@ -11,10 +11,10 @@ use crate::code;
 use crate::event::Event;
 use crate::is_terminal;
 use crate::later;
-use crate::machine::no_ending;
-use crate::machine::no_note;
 use crate::moves::Move;
 use crate::moves::Next;
+use crate::moves::no_ending;
+use crate::moves::no_note;
 use workflow::NUMBERS;
 ghost use mathlib.Core.Path.{_≡_};
 ghost use mathlib.Core.Bool.{not};
@@ -25,54 +25,6 @@ ghost use Rattle.workflow.specs.Lookup.{node-of, policy-of, declares};
 ghost use Rattle.model.specs.Code.{waiting};
 ghost use Rattle.model.specs.Step.{success-outcome, on-signal, on-success, on-failure, on-unknown, on-result, on-resolved, on-ended, react, apply, resolve-fail};
 ghost use Rattle.model.specs.MachineLaws.{is-named, name-of, is-current, noted-only, completed, resolve};
-
-// Kinds of event.
-const RUN_STARTED: u32 = 1;
-
-const SIGNAL_RECEIVED: u32 = 2;
-
-const ACTIVITY_RESULT: u32 = 3;
-
-const INVOCATION_RESOLVED: u32 = 4;
-
-// The status of a result.
-const SUCCESS: u32 = 1;
-
-const FAILURE: u32 = 2;
-
-// The resolution of an operator.
-const RESOLVE_COMPLETE: u32 = 1;
-
-const RESOLVE_RETRY: u32 = 2;
-
-// Why a resolution doesn't apply.
-const MISMATCH: u32 = 1;
-
-const NOT_UNKNOWN: u32 = 2;
-
-const UNDECLARED: u32 = 3;
-
-// The kernel's own error codes.
-const UNDECLARED_OUTCOME: u32 = 3;
-
-const ATTEMPTS_EXHAUSTED: u32 = 4;
-
-const ACTIVITY_FAILED: u32 = 5;
-
-// Notes, and how a signal ended.
-const NOTE_IGNORED: u32 = 1;
-
-const NOTE_STALE: u32 = 2;
-
-const NOTE_NOT_APPLICABLE: u32 = 3;
-
-const NOTE_OVERFLOW: u32 = 4;
-
-const NOTE_UNKNOWN: u32 = 6;
-
-const END_OVERFLOW: u32 = 3;
-
-const END_IGNORED: u32 = 4;
 
 // The run waits, and for this signal.
 fn awaits(status: u32, awaited: u32, signal: u32) -> bool
@@ -194,7 +146,7 @@ impl State {
                 state: self,
                 next: Next::Rest,
                 note: Note {
-                    code: NOTE_OVERFLOW,
+                    code: code::NOTE_OVERFLOW,
                     node: code::NONE,
                     a: event.event_id,
                     b: 0,
@@ -202,7 +154,7 @@ impl State {
                 },
                 ending: Ending {
                     sequence: event.sequence,
-                    ending: END_OVERFLOW,
+                    ending: code::END_OVERFLOW,
                 },
                 order: Order::Nothing,
                 answers: 0,
@@ -235,7 +187,7 @@ impl State {
         if declares(w, action_at(w, position.node), outcome) {
             return self.complete(w, outcome, Output::Handle(event.output));
         }
-        self.fail_invocation(w, UNDECLARED_OUTCOME, outcome, true)
+        self.fail_invocation(w, code::UNDECLARED_OUTCOME, outcome, true)
     }
 
     // A failure is retried, or fails the invocation with its error if it has one.
@@ -254,7 +206,7 @@ impl State {
         if event.has_error {
             return self.fail_invocation(w, event.code, event.detail, true);
         }
-        self.fail_invocation(w, ACTIVITY_FAILED, 0, true)
+        self.fail_invocation(w, code::ACTIVITY_FAILED, 0, true)
     }
 
     // Unknown or expired on effect 1 parks the run.
@@ -280,7 +232,7 @@ impl State {
                 state: self,
                 next: Next::Rest,
                 note: Note {
-                    code: NOTE_UNKNOWN,
+                    code: code::NOTE_UNKNOWN,
                     node: position.node,
                     a: old.visit,
                     b: old.attempt,
@@ -294,7 +246,7 @@ impl State {
         if may_retry(w, action, event.attempt) {
             return self.retry(event.delay);
         }
-        self.fail_invocation(w, ATTEMPTS_EXHAUSTED, event.status, true)
+        self.fail_invocation(w, code::ATTEMPTS_EXHAUSTED, event.status, true)
     }
 
     // A result that doesn't apply is stale.
@@ -303,10 +255,10 @@ impl State {
     {
         let invocation = self.invocation;
         if is_current(invocation, event.node, event.visit, event.attempt) {
-            if event.status == SUCCESS {
+            if event.status == code::SUCCESS {
                 return self.on_success(w, event);
             }
-            if event.status == FAILURE {
+            if event.status == code::FAILURE {
                 return self.on_failure(w, event);
             }
             return self.on_unknown(w, event);
@@ -315,7 +267,7 @@ impl State {
             state: self,
             next: Next::Rest,
             note: Note {
-                code: NOTE_STALE,
+                code: code::NOTE_STALE,
                 node: name_of(invocation, event.node, event.visit),
                 a: event.node,
                 b: event.visit,
@@ -336,7 +288,7 @@ impl State {
             state: self,
             next: Next::Rest,
             note: Note {
-                code: NOTE_NOT_APPLICABLE,
+                code: code::NOTE_NOT_APPLICABLE,
                 node: name_of(invocation, event.node, event.visit),
                 a: event.node,
                 b: event.visit,
@@ -368,7 +320,7 @@ impl State {
         if declares(w, action_at(w, position.node), event.outcome) {
             return self.complete(w, event.outcome, Output::Handle(event.output));
         }
-        self.not_applicable(event, UNDECLARED)
+        self.not_applicable(event, code::UNDECLARED)
     }
 
     // An operator's retry is held to no number of attempts, and has delay 0.
@@ -377,12 +329,12 @@ impl State {
     {
         let invocation = self.invocation;
         if invocation.phase == code::SCHEDULED {
-            return self.not_applicable(event, NOT_UNKNOWN);
+            return self.not_applicable(event, code::NOT_UNKNOWN);
         }
-        if event.resolution == RESOLVE_COMPLETE {
+        if event.resolution == code::RESOLVE_COMPLETE {
             return self.resolve_complete(w, event);
         }
-        if event.resolution == RESOLVE_RETRY {
+        if event.resolution == code::RESOLVE_RETRY {
             return self.retry(0);
         }
         self.resolve_fail(w, event)
@@ -396,7 +348,7 @@ impl State {
         if is_named(invocation, event.node, event.visit) {
             return self.resolve(w, event);
         }
-        self.not_applicable(event, MISMATCH)
+        self.not_applicable(event, code::MISMATCH)
     }
 
     // An ended run only notes the event.
@@ -404,20 +356,20 @@ impl State {
         ensures { λ r. ⌜ ((f : Workflow) → r ≡ on-ended f self event) ⌝ }
     {
         let note = Note {
-            code: NOTE_IGNORED,
+            code: code::NOTE_IGNORED,
             node: code::NONE,
             a: event.kind,
             b: 0,
             c: 0,
         };
-        if event.kind == SIGNAL_RECEIVED {
+        if event.kind == code::SIGNAL_RECEIVED {
             return Move {
                 state: self,
                 next: Next::Rest,
                 note: note,
                 ending: Ending {
                     sequence: event.sequence,
-                    ending: END_IGNORED,
+                    ending: code::END_IGNORED,
                 },
                 order: Order::Nothing,
                 answers: 0,
@@ -440,7 +392,7 @@ impl State {
         if is_terminal(self.status) {
             return self.on_ended(event);
         }
-        if event.kind == RUN_STARTED {
+        if event.kind == code::RUN_STARTED {
             return Move {
                 state: self,
                 next: Next::Enter {
@@ -453,13 +405,13 @@ impl State {
                 answers: 0,
             };
         }
-        if event.kind == SIGNAL_RECEIVED {
+        if event.kind == code::SIGNAL_RECEIVED {
             return self.on_signal(w, event);
         }
-        if event.kind == ACTIVITY_RESULT {
+        if event.kind == code::ACTIVITY_RESULT {
             return self.on_result(w, event);
         }
-        if event.kind == INVOCATION_RESOLVED {
+        if event.kind == code::INVOCATION_RESOLVED {
             return self.on_resolved(w, event);
         }
         Move {

@@ -14,6 +14,8 @@ use crate::answer::RetryActivity;
 use crate::code;
 use crate::moves::Move;
 use crate::moves::Next;
+use crate::moves::no_ending;
+use crate::moves::no_note;
 use workflow::Found;
 use workflow::NUMBERS;
 ghost use mathlib.Core.Path.{_≡_};
@@ -23,58 +25,14 @@ ghost use Rattle.laws.specs.Bool.{_and_};
 ghost use Rattle.workflow.specs.View.{Workflow, workflow};
 ghost use Rattle.workflow.specs.Lookup.{found, route-of, limit-of};
 ghost use Rattle.model.specs.Code.{largest, exhausted};
-ghost use Rattle.model.specs.Step.{no-note, no-ending, signal-outcome, signal-route, route, take-signal, retry, complete-invocation, stick, fail-invocation, terminate};
+ghost use Rattle.model.specs.Step.{signal-outcome, signal-route, route, take-signal, retry, complete-invocation, stick, fail-invocation, terminate};
 ghost use Rattle.model.specs.MachineLaws.{way-of, next-of, count-of};
-
-// The largest counter or time.
-const LARGEST: u64 = 9223372036854775807;
-
-const LARGEST_ATTEMPT: u32 = 4294967295;
-
-// Notes, and how a signal ended.
-const NOTE_UNROUTED: u32 = 5;
-
-const NOTE_STUCK: u32 = 7;
-
-const NOTE_RETRY: u32 = 8;
-
-const NOTE_EXHAUSTED: u32 = 9;
-
-const END_ROUTED: u32 = 1;
-
-const END_UNROUTED: u32 = 2;
-
-// Refusals: the run stands at no node of the sheet; no time or number for a retry.
-const ASTRAY: u32 = 0;
-
-const NO_RETRY: u32 = 27;
 
 // Which outcome a node routes, with its next streak and the note that goes with it.
 struct Way {
     streak: Streak,
     outcome: u32,
     note: Note,
-}
-
-pub fn no_note() -> Note
-    ensures { λ r. ⌜ r ≡ no-note ⌝ }
-{
-    Note {
-        code: 0,
-        node: 0,
-        a: 0,
-        b: 0,
-        c: 0,
-    }
-}
-
-pub fn no_ending() -> Ending
-    ensures { λ r. ⌜ r ≡ no-ending ⌝ }
-{
-    Ending {
-        sequence: 0,
-        ending: 0,
-    }
 }
 
 // The lookups of a move.
@@ -124,7 +82,7 @@ fn way_of(limit: Found, streak: Streak, node: u32, outcome: u32) -> Way
             },
             outcome: code::EXHAUSTED,
             note: Note {
-                code: NOTE_EXHAUSTED,
+                code: code::NOTE_EXHAUSTED,
                 node: node,
                 a: outcome,
                 b: most,
@@ -151,7 +109,7 @@ fn next_of(target: Found, node: u32) -> Next
             node: t,
             from: node,
         },
-        Found::Nothing => Next::Refuse(ASTRAY),
+        Found::Nothing => Next::Refuse(code::ASTRAY),
     }
 }
 
@@ -209,10 +167,10 @@ fn parks(may_park: bool, format: u32) -> bool
 fn is_late(last: u64, delay: u64) -> bool
     ensures { λ r. ⌜ r ≡ ltb largest (last + delay) ⌝ }
 {
-    if LARGEST < last {
+    if code::LARGEST < last {
         return true;
     }
-    LARGEST - last < delay
+    code::LARGEST - last < delay
 }
 
 impl State {
@@ -226,7 +184,7 @@ impl State {
         if workflow::capped(w[workflow::NODE_COUNT], 64) <= n {
             return Move {
                 state: self,
-                next: Next::Refuse(ASTRAY),
+                next: Next::Refuse(code::ASTRAY),
                 note: no_note(),
                 ending: no_ending(),
                 order: Order::Nothing,
@@ -263,7 +221,7 @@ impl State {
                 state: self,
                 next: missed,
                 note: Note {
-                    code: NOTE_UNROUTED,
+                    code: code::NOTE_UNROUTED,
                     node: position.node,
                     a: signal.event_id,
                     b: outcome,
@@ -271,7 +229,7 @@ impl State {
                 },
                 ending: Ending {
                     sequence: signal.sequence,
-                    ending: END_UNROUTED,
+                    ending: code::END_UNROUTED,
                 },
                 order: Order::Nothing,
                 answers: 0,
@@ -280,7 +238,7 @@ impl State {
         let mut routed = self.route(w, outcome, Output::Handle(signal.data));
         let ending = Ending {
             sequence: signal.sequence,
-            ending: END_ROUTED,
+            ending: code::END_ROUTED,
         };
         routed.ending = ending;
         routed
@@ -296,17 +254,17 @@ impl State {
         if is_late(last, delay) {
             return Move {
                 state: self,
-                next: Next::Refuse(NO_RETRY),
+                next: Next::Refuse(code::NO_RETRY),
                 note: no_note(),
                 ending: no_ending(),
                 order: Order::Nothing,
                 answers: 0,
             };
         }
-        if LARGEST_ATTEMPT <= attempt {
+        if code::LARGEST_ATTEMPT <= attempt {
             return Move {
                 state: self,
-                next: Next::Refuse(NO_RETRY),
+                next: Next::Refuse(code::NO_RETRY),
                 note: no_note(),
                 ending: no_ending(),
                 order: Order::Nothing,
@@ -329,7 +287,7 @@ impl State {
             state: self,
             next: Next::Rest,
             note: Note {
-                code: NOTE_RETRY,
+                code: code::NOTE_RETRY,
                 node: position.node,
                 a: attempt + 1,
                 b: 0,
@@ -376,7 +334,7 @@ impl State {
             state: self,
             next: Next::Rest,
             note: Note {
-                code: NOTE_STUCK,
+                code: code::NOTE_STUCK,
                 node: position.node,
                 a: old.visit,
                 b: old.attempt,

@@ -3,6 +3,8 @@ use crate::State;
 use crate::answer::Ending;
 use crate::answer::Note;
 use crate::answer::Order;
+ghost use mathlib.Core.Path.{_≡_};
+ghost use Rattle.model.specs.Step.{no-note, no-ending, still};
 
 // What comes after a move.
 pub enum Next {
@@ -29,4 +31,39 @@ pub struct Move {
     pub ending: Ending,
     pub order: Order,
     pub answers: u32,
+}
+
+pub fn no_note() -> Note
+    ensures { λ r. ⌜ r ≡ no-note ⌝ }
+{
+    Note {
+        code: 0,
+        node: 0,
+        a: 0,
+        b: 0,
+        c: 0,
+    }
+}
+
+pub fn no_ending() -> Ending
+    ensures { λ r. ⌜ r ≡ no-ending ⌝ }
+{
+    Ending {
+        sequence: 0,
+        ending: 0,
+    }
+}
+
+// Nothing but the record and what comes next.
+pub fn still(state: State, next: Next) -> Move
+    ensures { λ r. ⌜ r ≡ still state next ⌝ }
+{
+    Move {
+        state: state,
+        next: next,
+        note: no_note(),
+        ending: no_ending(),
+        order: Order::Nothing,
+        answers: 0,
+    }
 }

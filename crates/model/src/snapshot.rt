@@ -22,14 +22,6 @@ ghost use Rattle.model.specs.Check.{result-unused, result-zero, result-f
 ghost use Rattle.model.specs.EventCheck.{in-range, event-fits};
 ghost use Rattle.model.specs.SnapshotLaws.{signal-fits, node-fits, slots-fit, terminal-by, error-fits, invocation-fits, live-by, answers-fit};
 
-// The largest counter or time.
-const LARGEST: u64 = 9223372036854775807;
-
-// Kinds of event.
-const ACTIVITY_RESULT: u32 = 3;
-
-const INVOCATION_RESOLVED: u32 = 4;
-
 // The slots at one place.
 
 // A stored signal, or an unused slot of the store, which is all zero.
@@ -37,7 +29,7 @@ fn signal_fits(count: u32, place: u32, x: BufferedSignal) -> bool
     ensures { λ r. ⌜ r ≡ signal-fits count place x ⌝ }
 {
     if place < count {
-        return x.sequence <= LARGEST;
+        return x.sequence <= code::LARGEST;
     }
     (x.sequence == 0) & (x.event_id == 0) & (x.signal == 0) & (x.outcome == 0) & (x.data == 0)
 }
@@ -234,10 +226,10 @@ impl State {
     pub fn consistent(self, w: &[u32; NUMBERS]) -> bool
         ensures { λ r. ⌜ r ≡ consistent (workflow (now (w .entry))) self ⌝ }
     {
-        if LARGEST < self.last_sequence {
+        if code::LARGEST < self.last_sequence {
             return false;
         }
-        if LARGEST < self.last_accepted_at {
+        if code::LARGEST < self.last_accepted_at {
             return false;
         }
         if State::STORE < self.signal_count {
@@ -299,11 +291,11 @@ fn answers_fit(m: Mappings) -> bool
 pub fn event_fits(e: Event, m: Mappings) -> bool
     ensures { λ r. ⌜ r ≡ event-fits e m ⌝ }
 {
-    (e.sequence <= LARGEST)
-        & (e.accepted_at <= LARGEST)
+    (e.sequence <= code::LARGEST)
+        & (e.accepted_at <= code::LARGEST)
         & (m.count <= 2)
         & in_range(1, 5, e.kind)
-        & ((e.kind != ACTIVITY_RESULT) | in_range(1, 4, e.status))
-        & ((e.kind != INVOCATION_RESOLVED) | in_range(1, 3, e.resolution))
+        & ((e.kind != code::ACTIVITY_RESULT) | in_range(1, 4, e.status))
+        & ((e.kind != code::INVOCATION_RESOLVED) | in_range(1, 3, e.resolution))
         & answers_fit(m)
 }

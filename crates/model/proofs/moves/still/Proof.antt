@@ -1,6 +1,6 @@
 use borrow.Author.Needs.{needs}
-use Rattle.model.proofs.enter.still.Statement.{statement}
-use Rattle.model.proofs.enter.still.Tie as tie
+use Rattle.model.proofs.moves.still.Statement.{statement}
+use Rattle.model.proofs.moves.still.Tie as tie
 
 no-note-requires : tie.Need-no-note-requires
 no-note-requires c κs = search needs
