@@ -5,8 +5,8 @@
 //! harness wrong SEED.. [--calls N]              after how many calls each wrong reading is found
 //! harness joint                                 the cases of Joint A on both
 //! harness recorded FILE..                       recorded calls and answers, in text form, on both
-//! harness sample SEED                           writes oracle/sample
-//! harness read-sample                           reads oracle/sample and compares it with both
+//! harness sample SEED                           writes crates/replay/stdin and oracle/sample/README.md
+//! harness read-sample                           reads crates/replay/stdin and compares it with both
 //! harness speed                                 the plain reading's time for Joint A
 //! ```
 
