@@ -2,6 +2,7 @@ pub mod Drive
 pub mod Call
 pub mod Demand3
 pub mod Joint
+pub mod Bounds
 pub mod Held
 pub mod Hold
 pub mod Whole
