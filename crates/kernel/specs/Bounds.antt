@@ -105,11 +105,11 @@ more-endings : (xs : List Ending) (x : Ending) → length (add-ending xs x) ≤ 
 unfolding add-ending if_then_else_
 more-endings xs x = split (eqb (x .ending) 0) (λ h. rw h (omega arith)) (λ h. rw h (omega (arith, length-append xs (x ∷ []))))
 
-same-notes : (xs : List Note) (x : Note) → x ≡ no-note → add-note xs x ≡ xs
+pub same-notes : (xs : List Note) (x : Note) → x ≡ no-note → add-note xs x ≡ xs
 unfolding add-note if_then_else_
 same-notes xs x e = rw e
 
-same-endings : (xs : List Ending) (x : Ending) → x ≡ no-ending → add-ending xs x ≡ xs
+pub same-endings : (xs : List Ending) (x : Ending) → x ≡ no-ending → add-ending xs x ≡ xs
 unfolding add-ending if_then_else_
 same-endings xs x e = rw e
 
