@@ -1,4 +1,6 @@
 // A call. The definition is in specs/.
+mod drive;
+
 use graph::Verdict;
 use graph::held;
 use model::State;
