@@ -12,8 +12,9 @@ use Rattle.laws.specs.First.{first, some}
 use Rattle.laws.specs.Every.{every}
 use Rattle.laws.specs.In.{In, every-in, Hit, hit, miss, hits, Some, some-found, none-found}
 use Rattle.laws.specs.All.{All}
+use Rattle.workflow.specs.Code.{none, node-room, exhausted, activity}
 use Rattle.workflow.specs.View.{Workflow}
-use Rattle.workflow.specs.Lookup.{found, node-of, are, is-route, route-of, is-limit, limit-of, is-declared, declares}
+use Rattle.workflow.specs.Lookup.{node-of, are, is-route, route-of, routed, is-limit, limit-of, is-declared, declares}
 use Rattle.workflow.specs.Sound.{Sound}
 use Rattle.workflow.specs.declared.Node.{Node}
 use Rattle.workflow.specs.declared.Route.{Route}
@@ -26,7 +27,7 @@ use Rattle.graph.specs.declared.Verdict.{Verdict}
 use Rattle.graph.specs.declared.Verdict.the-variants.{Fine, Broken}
 use Rattle.graph.specs.Lowest.{lowest, lowest-none}
 use Rattle.graph.specs.Form.{routes-at, route-fits, limit-fits, form}
-use Rattle.graph.specs.Rules.{unrouted, astray, extra, breaks-8, breaks-9, bad-limit, breaks-12, routed}
+use Rattle.graph.specs.Rules.{unrouted, astray, extra, breaks-8, breaks-9, bad-limit, breaks-12}
 use Rattle.graph.specs.Verdict.{rule, rule-at, is-broken, action-verdict, actions-verdict, stages, first-broken, verdict}
 
 never : {A : Type 0} {k i : ℕ} → Broken k i ≡ Fine → A
@@ -95,7 +96,7 @@ rules f c e =
 
 module _ (f : Workflow) (r : Rules f) where
   -- the parts of the form
-  few : f .node-count ≤ 64
+  few : f .node-count ≤ node-room
   unfolding form
   few = leb-true _ _ (both _ _ (both _ _ (r .formed) .0) .0)
 
@@ -113,7 +114,7 @@ module _ (f : Workflow) (r : Rules f) where
   stays n h =
       let a = both _ _ h in
       let b = ltb-true _ _ (a .0) in
-      split (eqb (node-of f n .kind) 1)
+      split (eqb (node-of f n .kind) activity)
       (λ e. neither _ _ (neither _ _ (neither _ _ (implied _ _ (r .rule-8 n b) e) .1) .1) .1)
       (λ e. neither _ _ (neither _ _ (implied _ _ (r .rule-9 n b) (other _ _ (a .1) e)) .1) .1)
 
@@ -132,7 +133,7 @@ module _ (f : Workflow) (r : Rules f) where
       omega (arith, inside x i .1)
   target-there n o t (miss g) e = let z : _≡_ {A = ℕ} 0 1 = cc in absurd (omega arith)
 
-  exhausted-routed : (n o k : ℕ) {w : Found} → Hit (is-limit n o) (λ _ x. At (x .limit)) Nothing (f .limits) w → w ≡ At k → routed f n 3 ≡ true
+  exhausted-routed : (n o k : ℕ) {w : Found} → Hit (is-limit n o) (λ _ x. At (x .limit)) Nothing (f .limits) w → w ≡ At k → routed f n exhausted ≡ true
   unfolding are limit-fits breaks-12
   exhausted-routed n o k (hit j x i p) e =
       let q = both _ _ p in
@@ -146,7 +147,7 @@ module _ (f : Workflow) (r : Rules f) where
       not-false _ (neither _ _ (neither _ _ (neither _ _ u .1) .1) .1)
   exhausted-routed n o k (miss g) e = let z : _≡_ {A = ℕ} 0 1 = cc in absurd (omega arith)
 
-  declared-there : (n o : ℕ) → n < f .node-count → node-of f n .kind ≡ 1 → declares f (node-of f n .action) o ≡ true → routed f n o ≡ true
+  declared-there : (n o : ℕ) → n < f .node-count → node-of f n .kind ≡ activity → declares f (node-of f n .action) o ≡ true → routed f n o ≡ true
   unfolding are declares breaks-8 unrouted
   declared-there n o b k d =
       let y = some-found (is-declared (node-of f n .action) o) (f .declared) d in
@@ -180,7 +181,7 @@ low-broken n i a b = record { low = λ k j e. let z : n ≡ k = cc in (omega ari
 low-rule : (n : ℕ) (b : Bool) → 0 < n → n ≤ 20 → Low (rule n b)
 unfolding if_then_else_
 low-rule n true a b = low-fine
-low-rule n false a b = low-broken n 255 a b
+low-rule n false a b = low-broken n none a b
 
 low-rule-at : (n : ℕ) (x : Found) → 0 < n → n ≤ 20 → Low (rule-at n x)
 unfolding rule-at

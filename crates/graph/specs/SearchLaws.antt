@@ -10,6 +10,7 @@ use borrow.Author.Tests.{eq-eqb, eqb-true, eqb-false, not-true, not-false, ltb-t
 use Rattle.laws.specs.Bool.{if_then_else_, _and_, _or_, split, both, if-true}
 use Rattle.laws.specs.Rows.{span, span-more, span-none}
 use Rattle.laws.specs.First.{first}
+use Rattle.workflow.specs.Code.{route-room, limit-room, declared-room}
 use Rattle.workflow.specs.View.{Workflow, workflow, route-at, limit-at, declared-at}
 use Rattle.workflow.specs.Lookup.{are, route-of, limit-of}
 use Rattle.workflow.specs.declared.Found.the-variants.{At, Nothing}
@@ -395,26 +396,26 @@ module _ {A : Type 0} {w : List ℕ} {a b t k : ℕ} {f : ℕ → A} {node outco
 
 -- How many rows there are.
 abbrev pub route-rows : List ℕ → ℕ
-route-rows w = min 512 (getD w 5 0)
+route-rows w = min route-room (getD w 5 0)
 
 abbrev pub limit-rows : List ℕ → ℕ
-limit-rows w = min 512 (getD w 6 0)
+limit-rows w = min limit-room (getD w 6 0)
 
 abbrev pub declared-rows : List ℕ → ℕ
-declared-rows w = min 256 (getD w 8 0)
+declared-rows w = min declared-room (getD w 8 0)
 
 module _ (w : List ℕ) where
   pub route-row : (j : ℕ) → j < route-rows w → route-at w j ≡ record { node = column w 457 j; outcome = column w 969 j; target = column w 1481 j }
   unfolding route-at
-  route-row j h = if-true _ _ _ (lt-ltb j 512 (omega arith))
+  route-row j h = if-true _ _ _ (lt-ltb j route-room (omega arith))
 
   pub limit-row : (j : ℕ) → j < limit-rows w → limit-at w j ≡ record { node = column w 1993 j; outcome = column w 2505 j; limit = column w 3017 j }
   unfolding limit-at
-  limit-row j h = if-true _ _ _ (lt-ltb j 512 (omega arith))
+  limit-row j h = if-true _ _ _ (lt-ltb j limit-room (omega arith))
 
   pub declared-row : (j : ℕ) → j < declared-rows w → declared-at w j ≡ record { action = column w 3657 j; outcome = column w 3913 j }
   unfolding declared-at
-  declared-row j h = if-true _ _ _ (lt-ltb j 256 (omega arith))
+  declared-row j h = if-true _ _ _ (lt-ltb j declared-room (omega arith))
 
   route-table : Table w 457 969 1481 (route-rows w) (route-at w) (λ x. x .node) (λ x. x .outcome) (λ x. x .target)
   route-table =

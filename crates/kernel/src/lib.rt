@@ -2,7 +2,7 @@
 use graph::Verdict;
 use graph::held;
 use model::State;
-use model::code;
+use workflow::code;
 use model::event::Event;
 use model::event::Limits;
 use model::event::Mappings;

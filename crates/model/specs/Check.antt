@@ -19,7 +19,7 @@ use Rattle.model.specs.declared.NodeResult.{NodeResult}
 use Rattle.model.specs.declared.Position.{Position}
 use Rattle.model.specs.declared.InvocationState.{InvocationState}
 use Rattle.model.specs.declared.State.{State}
-use Rattle.model.specs.Code.{none, largest, store, activity, await-signal, running, waiting, needs-intervention, run-completed, run-failed, scheduled, unknown, stuck}
+use Rattle.workflow.specs.Code.{none, largest, store, activity, await-signal, running, waiting, needs-intervention, run-completed, run-failed, scheduled, unknown, stuck}
 use Rattle.model.specs.Record.{no-node-result, visits-of, streak-of, is-terminal}
 use Rattle.model.specs.Store.{stored}
 

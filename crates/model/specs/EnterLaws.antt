@@ -15,7 +15,7 @@ use Rattle.model.specs.declared.event.Mappings.{Mappings}
 use Rattle.model.specs.declared.event.Evaluated.{Evaluated}
 use Rattle.model.specs.declared.moves.Next.the-variants.{Rest, Consume}
 use Rattle.model.specs.declared.moves.Move.{Move}
-use Rattle.model.specs.Code.{activity, await-signal, complete, waiting, run-completed, field-params, field-output, visits-exceeded, activations-exceeded}
+use Rattle.workflow.specs.Code.{activity, await-signal, complete, waiting, run-completed, field-params, field-output, visits-exceeded, activations-exceeded}
 use Rattle.model.specs.Record.{no-invocation, visits-of, with-visits, placed, finished}
 use Rattle.model.specs.Step.{still, reading, error, position, answer, evaluate, terminate, schedule, enter-activity, arrive, enter}
 

@@ -7,7 +7,7 @@ use Rattle.laws.specs.Bool.{_and_, _or_}
 use Rattle.laws.specs.Every.{every}
 use Rattle.model.specs.declared.event.Event.{Event}
 use Rattle.model.specs.declared.event.Mappings.{Mappings}
-use Rattle.model.specs.Code.{largest, activity-result, invocation-resolved}
+use Rattle.workflow.specs.Code.{largest, activity-result, invocation-resolved}
 
 -- 21: sequence or time above 2^63 - 1, over 2 answers, or an unknown kind, status, resolution or kind of answer.
 abbrev pub in-range : (first last x : ℕ) → Bool

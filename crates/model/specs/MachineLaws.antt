@@ -21,7 +21,7 @@ use Rattle.model.specs.declared.machine.Way.{Way}
 use Rattle.model.specs.declared.moves.Next.{Next}
 use Rattle.model.specs.declared.moves.Next.the-variants.{Rest, Enter, Refuse}
 use Rattle.model.specs.declared.moves.Move.{Move}
-use Rattle.model.specs.Code.{none, exhausted, scheduled, resolve-complete, resolve-retry, note-exhausted, note-not-applicable, mismatch, not-unknown, undeclared}
+use Rattle.workflow.specs.Code.{none, exhausted, scheduled, resolve-complete, resolve-retry, note-exhausted, note-not-applicable, mismatch, not-unknown, undeclared}
 use Rattle.model.specs.Record.{no-streak, streak-of, with-streak, with-result}
 use Rattle.model.specs.Step.{no-note, no-ending, still, noting, follow-to, route-limited, route, retry, complete-invocation, action-at, resolve-fail, on-resolved}
 

@@ -5,7 +5,7 @@ use Prim.Native.Nat.{ℕ, max}
 use lib.ListN.{getD, set, replicate}
 use lib.Dec.{eqb}
 use Rattle.laws.specs.Bool.{_or_}
-use Rattle.model.specs.Code.{none, running, run-completed, run-failed}
+use Rattle.workflow.specs.Code.{none, running, run-completed, run-failed}
 use Rattle.model.specs.declared.Output.{Output}
 use Rattle.model.specs.declared.Kept.{Kept}
 use Rattle.model.specs.declared.BufferedSignal.{BufferedSignal}

@@ -29,7 +29,7 @@ use Rattle.model.specs.declared.answer.Ending.{Ending}
 use Rattle.model.specs.declared.moves.Next.{Next}
 use Rattle.model.specs.declared.moves.Next.the-variants.{Rest, Enter, Take, Consume, Wants, Refuse}
 use Rattle.model.specs.declared.moves.Move.{Move}
-use Rattle.model.specs.Code.{none, largest, store, ok, received, failed, exhausted, activity, await-signal, complete, running, waiting, needs-intervention, run-completed, run-failed, scheduled, unknown, stuck, run-started, signal-received, activity-result, invocation-resolved, success, failure, resolve-complete, resolve-retry, value, fault, field-input, field-params, field-output, visits-exceeded, activations-exceeded, undeclared-outcome, attempts-exhausted, activity-failed, note-ignored, note-stale, note-not-applicable, note-overflow, note-unrouted, note-unknown, note-stuck, note-retry, note-exhausted, mismatch, not-unknown, undeclared, end-routed, end-unrouted, end-overflow, end-ignored}
+use Rattle.workflow.specs.Code.{none, largest, store, ok, received, failed, exhausted, activity, await-signal, complete, running, waiting, needs-intervention, run-completed, run-failed, scheduled, unknown, stuck, run-started, signal-received, activity-result, invocation-resolved, success, failure, resolve-complete, resolve-retry, value, fault, field-input, field-params, field-output, visits-exceeded, activations-exceeded, undeclared-outcome, attempts-exhausted, activity-failed, note-ignored, note-stale, note-not-applicable, note-overflow, note-unrouted, note-unknown, note-stuck, note-retry, note-exhausted, mismatch, not-unknown, undeclared, end-routed, end-unrouted, end-overflow, end-ignored}
 use Rattle.model.specs.Record.{no-streak, no-invocation, visits-of, streak-of, with-visits, with-streak, with-result, is-terminal, seen, placed, finished}
 use Rattle.model.specs.Store.{appended}
 

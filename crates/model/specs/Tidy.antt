@@ -34,7 +34,7 @@ use Rattle.model.specs.declared.answer.Params.{Params}
 use Rattle.model.specs.declared.moves.Next.{Next}
 use Rattle.model.specs.declared.moves.Next.the-variants.{Rest, Enter, Take, Consume, Wants, Refuse}
 use Rattle.model.specs.declared.moves.Move.{Move}
-use Rattle.model.specs.Code.{largest, exhausted, activity, waiting, running, needs-intervention, run-completed, run-failed, scheduled, unknown, stuck, run-started}
+use Rattle.workflow.specs.Code.{largest, exhausted, activity, waiting, running, needs-intervention, run-completed, run-failed, scheduled, unknown, stuck, run-started}
 use Rattle.model.specs.Record.{no-signal, no-visits, no-streak, no-node-result, no-invocation, fresh, visits-of, streak-of, is-terminal, set-signals, set-visits, set-results, set-streaks, with-streak, with-result, seen, placed, finished}
 use Rattle.model.specs.Store.{stored, removed, appended}
 use Rattle.model.specs.Step.{still, position, counted, phased, arrival, is-0-2, routed, terminate, evaluate, schedule, enter-activity, arrive, enter, follow-to, follow, route-limited, route, signal-outcome, take-by, take-signal, retry, complete-invocation, stick, fail-invocation, on-signal, named, on-success, on-failure, on-unknown, on-result, resolve-fail, on-resolved, on-ended, react}

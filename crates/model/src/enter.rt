@@ -12,7 +12,7 @@ use crate::answer::Note;
 use crate::answer::Order;
 use crate::answer::Params;
 use crate::answer::ScheduleActivity;
-use crate::code;
+use workflow::code;
 use crate::event::Evaluated;
 use crate::event::Mappings;
 use crate::moves::Move;

@@ -7,7 +7,7 @@ use crate::State;
 use crate::answer::Ending;
 use crate::answer::Note;
 use crate::answer::Order;
-use crate::code;
+use workflow::code;
 use crate::event::Event;
 use crate::is_terminal;
 use crate::later;
@@ -22,7 +22,7 @@ ghost use lib.Dec.{ltb, eqb};
 ghost use Rattle.laws.specs.Bool.{_and_};
 ghost use Rattle.workflow.specs.View.{Workflow, workflow};
 ghost use Rattle.workflow.specs.Lookup.{node-of, policy-of, declares};
-ghost use Rattle.model.specs.Code.{waiting};
+ghost use Rattle.workflow.specs.Code.{waiting};
 ghost use Rattle.model.specs.Step.{success-outcome, on-signal, on-success, on-failure, on-unknown, on-result, on-resolved, on-ended, react, apply, resolve-fail};
 ghost use Rattle.model.specs.MachineLaws.{is-named, name-of, is-current, noted-only, completed, resolve};
 

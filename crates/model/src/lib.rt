@@ -1,6 +1,5 @@
 // The types of document 01 in the names of model.rs: the run record (`State`) with its accessors, events and answers.
 pub mod answer;
-pub mod code;
 pub mod enter;
 pub mod event;
 pub mod events;

@@ -11,7 +11,7 @@ use crate::answer::Ending;
 use crate::answer::Note;
 use crate::answer::Order;
 use crate::answer::RetryActivity;
-use crate::code;
+use workflow::code;
 use crate::moves::Move;
 use crate::moves::Next;
 use crate::moves::no_ending;
@@ -24,7 +24,7 @@ ghost use lib.Dec.{ltb, eqb};
 ghost use Rattle.laws.specs.Bool.{_and_};
 ghost use Rattle.workflow.specs.View.{Workflow, workflow};
 ghost use Rattle.workflow.specs.Lookup.{found, route-of, limit-of};
-ghost use Rattle.model.specs.Code.{largest, exhausted};
+ghost use Rattle.workflow.specs.Code.{largest, exhausted};
 ghost use Rattle.model.specs.Step.{signal-outcome, signal-route, route, take-signal, retry, complete-invocation, stick, fail-invocation, terminate};
 ghost use Rattle.model.specs.MachineLaws.{way-of, next-of, count-of};
 

@@ -9,7 +9,7 @@ use crate::RunResult;
 use crate::State;
 use crate::Streak;
 use crate::Visits;
-use crate::code;
+use workflow::code;
 use crate::event::Event;
 use crate::event::Mappings;
 use workflow::Found;

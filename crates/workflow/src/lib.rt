@@ -1,4 +1,6 @@
 // The sheet (`Workflow`), lent as one array of numbers with a column for each field of its rows, and the lookups in it.
+pub mod code;
+
 ghost use mathlib.Core.Path.{_≡_};
 ghost use mathlib.Core.Bool.{Bool};
 ghost use Prim.Native.Nat.{min};

@@ -8,6 +8,11 @@ pub const LARGEST: u64 = 9223372036854775807;
 
 pub const LARGEST_ATTEMPT: u32 = 4294967295;
 
+// Formats of a sheet: 2 is the 0.2 document.
+pub const FORMAT_0_1: u32 = 1;
+
+pub const FORMAT_0_2: u32 = 2;
+
 // Outcomes that have a meaning of their own.
 pub const OK: u32 = 0;
 
@@ -25,6 +30,11 @@ pub const AWAIT_SIGNAL: u32 = 2;
 pub const COMPLETE: u32 = 3;
 
 pub const FAIL: u32 = 4;
+
+// Effects of an action; 1 is neither.
+pub const REPEATABLE: u32 = 0;
+
+pub const RECONCILABLE: u32 = 2;
 
 // A run's status.
 pub const RUNNING: u32 = 1;
