@@ -1,14 +1,14 @@
 -- What the sets of 14 and 15 mean: a node is in the set exactly if a chain of routes leads there from start, or from there to an end.
-use mathlib.Core.Path.{_≡_, refl, sym, ap, _∙_}
+use mathlib.Core.Path.{_≡_, refl, sym, _∙_}
 use mathlib.Core.Bool.{Bool, true, false, false≢true}
 use mathlib.Core.Logic.{_⊎_, inl, inr, ⊎-elim}
 use mathlib.Core.List.{List, [], _∷_}
-use Prim.Native.Nat.{ℕ, zero, suc, _+_, _^_, _≤_, _<_}
+use Prim.Native.Nat.{ℕ, zero, suc, _^_, _≤_, _<_}
 use native.Mathlib.Omega.{arith}
 use lib.Dec.{leb, eqb}
 use lib.Pow.{pow-lt, pow-pos}
-use lib.Bits.{bitOr, or-lt}
-use borrow.Author.Tests.{eq-eqb, eqb-true, eqb-false, leb-true, le-leb}
+use lib.Bits.{or-lt}
+use borrow.Author.Tests.{eq-eqb, eqb-true, leb-true, le-leb}
 use Rattle.laws.specs.Bool.{if_then_else_, _or_, split}
 use Rattle.laws.specs.Rows.{span}
 use Rattle.laws.specs.In.{In, head, tail, in-span, span-in}

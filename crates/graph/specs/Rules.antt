@@ -1,9 +1,9 @@
 -- The rules of a sheet: W01, W03, W05 to W09 and W12 of graph.rs.
-use mathlib.Core.Bool.{Bool, true, false, not}
+use mathlib.Core.Bool.{Bool, false, not}
 use mathlib.Core.List.{List, [], _∷_}
 use Prim.Native.Nat.{ℕ, _+_, _-_, _^_, min}
 use lib.Dec.{ltb, leb, eqb}
-use Rattle.laws.specs.Bool.{if_then_else_, _and_, _or_}
+use Rattle.laws.specs.Bool.{_and_, _or_}
 use Rattle.laws.specs.First.{some}
 use Rattle.workflow.specs.Code.{failed, exhausted, activity, await-signal}
 use Rattle.workflow.specs.View.{Workflow}

@@ -7,20 +7,20 @@ use native.Mathlib.Omega.{arith}
 use lib.ListN.{getD, length, set, replicate, length-set, length-replicate, getD-replicate}
 use lib.Seq.{getD-set-same, getD-set-other}
 use lib.Dec.{ltb, leb, eqb}
-use borrow.Author.Tests.{eq-eqb, eqb-true, eqb-false, ltb-true, ltb-false, leb-true, lt-ltb, le-ltb, ne-eqb}
+use borrow.Author.Tests.{eq-eqb, eqb-true, eqb-false, ltb-true, ltb-false, lt-ltb, le-ltb, ne-eqb}
 use Rattle.laws.specs.Bool.{if_then_else_, _and_, _or_, split, both, and-true, or-false, if-true}
 use Rattle.laws.specs.Rows.{span, span-more, span-none, at-span}
 use Rattle.laws.specs.First.{first, some, Seek, seek-start}
 use Rattle.laws.specs.Every.{every}
 use Rattle.laws.specs.In.{every-in, in-span}
-use Rattle.workflow.specs.Code.{none, node-room, route-room, limit-room, action-room, format-0-2, failed, exhausted, await-signal}
+use Rattle.workflow.specs.Code.{none, node-room, route-room, limit-room, format-0-2, failed, exhausted, await-signal}
 use Rattle.workflow.specs.View.{Workflow, workflow, no-node, node-at, route-at, limit-at, declared-at}
 use Rattle.workflow.specs.Lookup.{found, is-0-2, node-of, policy-of, are, is-route, route-of, routed, is-declared, declares}
 use Rattle.workflow.specs.declared.Found.the-variants.{At, Nothing}
 use Rattle.graph.specs.Lowest.{lowest}
 use Rattle.graph.specs.Form.{route-fits, limit-fits, declared-fits, form}
 use Rattle.graph.specs.Rules.{within, breaks-1, of-action, reserved, declared-twice, breaks-7, of-node, unrouted, may-route-exhausted, extra, astray, breaks-8, breaks-9, limit-of-node, one-more, bad-limit, breaks-12}
-use Rattle.graph.specs.SearchLaws.{Cut, cuts, the-cut, column, rows-below, Rising, ascending-rising, first-skip, first-none, Sorted, form-sorted, route-rows, limit-rows, declared-rows, route-row, limit-row, declared-row, routes-ascend, limits-ascend, declared-rise}
+use Rattle.graph.specs.SearchLaws.{Cut, cuts, the-cut, column, rows-below, Rising, ascending-rising, first-skip, first-none, form-sorted, parts-of, route-rows, limit-rows, declared-rows, route-row, limit-row, declared-row, routes-ascend, limits-ascend, declared-rise}
 
 -- WHAT THE CONTRACTS CITE.
 -- Some number from a to b passes.
@@ -278,32 +278,7 @@ module _ {w : List ℕ} {c a b : ℕ} {whole : Bool} {m : List Bool} {i : ℕ} (
   unfolding again
   again-end h = rw (span-none (column w c) i b h) at (inv .left)
 
--- THE PARTS OF THE FORM.
-pub record Parts (f : Workflow) : Type 0 where
-  pub few-nodes : f .node-count ≤ node-room
-  pub few-actions : f .action-count ≤ action-room
-  pub sorted : Sorted f
-  pub routes-fit : every (route-fits f) (f .routes) ≡ true
-  pub limits-fit : every (limit-fits f) (f .limits) ≡ true
-  pub declared-fit : every (declared-fits f) (f .declared) ≡ true
-
-pub parts : (f : Workflow) → form f ≡ true → Parts f
-unfolding form
-parts f e =
-    let counts = both _ _ e .0 in
-    let routes = both _ _ (both _ _ (both _ _ (both _ _ e .1) .1) .1) .1 in
-    let limits = both _ _ (both _ _ routes .1) .1 in
-    let declared = both _ _ (both _ _ limits .1) .1 in
-    record {
-      few-nodes = leb-true _ _ (both _ _ counts .0);
-      few-actions = leb-true _ _ (both _ _ (both _ _ (both _ _ (both _ _ counts .1) .1) .1) .0);
-      sorted = form-sorted f e;
-      routes-fit = both _ _ routes .0;
-      limits-fit = both _ _ limits .0;
-      declared-fit = both _ _ declared .0;
-    }
-
--- an outcome of a row that fits is small
+-- OUTCOMES of rows that fit are small.
 small-at : {A : Type 0} (p : A → Bool) (o : A → ℕ) (f : ℕ → A) (k : ℕ) → ((x : A) → p x ≡ true → ltb (o x) none ≡ true) → every p (span f 0 k) ≡ true → (j : ℕ) → j < k → o (f j) < 256
 small-at p o f k t e j h =
     let l = ltb-true (o (f j)) none (t (f j) (every-in p e (in-span f k 0 k j (omega arith) (omega arith) h))) in
@@ -321,15 +296,15 @@ module _ (w : List ℕ) (formed : form (workflow w) ≡ true) where
 
   route-outcome : (j : ℕ) → j < route-rows w → column w 969 j < 256
   unfolding route-fits
-  route-outcome j h = rw (route-row w j h) at (small-at (route-fits (workflow w)) (λ x. x .outcome) (route-at w) _ (λ x t. both _ _ t .1) (parts _ formed .routes-fit) j h)
+  route-outcome j h = rw (route-row w j h) at (small-at (route-fits (workflow w)) (λ x. x .outcome) (route-at w) _ (λ x t. both _ _ t .1) (parts-of _ formed .routes-fit) j h)
 
   limit-outcome : (j : ℕ) → j < limit-rows w → column w 2505 j < 256
   unfolding limit-fits
-  limit-outcome j h = rw (limit-row w j h) at (small-at (limit-fits (workflow w)) (λ x. x .outcome) (limit-at w) _ (λ x t. both _ _ (both _ _ t .1) .1) (parts _ formed .limits-fit) j h)
+  limit-outcome j h = rw (limit-row w j h) at (small-at (limit-fits (workflow w)) (λ x. x .outcome) (limit-at w) _ (λ x t. both _ _ (both _ _ t .1) .1) (parts-of _ formed .limits-fit) j h)
 
   declared-outcome : (j : ℕ) → j < declared-rows w → column w 3913 j < 256
   unfolding declared-fits
-  declared-outcome j h = rw (declared-row w j h) at (small-at (declared-fits (workflow w)) (λ x. x .outcome) (declared-at w) _ (λ x t. both _ _ t .1) (parts _ formed .declared-fit) j h)
+  declared-outcome j h = rw (declared-row w j h) at (small-at (declared-fits (workflow w)) (λ x. x .outcome) (declared-at w) _ (λ x t. both _ _ t .1) (parts-of _ formed .declared-fit) j h)
 
 -- THE ROWS OF A KEY.
 module _ {w : List ℕ} {c k n a b : ℕ} (rising : Rising w c k) (g : Group w c k n a b) where

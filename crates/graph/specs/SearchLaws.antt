@@ -10,11 +10,12 @@ use borrow.Author.Tests.{eq-eqb, eqb-true, eqb-false, not-true, not-false, ltb-t
 use Rattle.laws.specs.Bool.{if_then_else_, _and_, _or_, split, both, if-true}
 use Rattle.laws.specs.Rows.{span, span-more, span-none}
 use Rattle.laws.specs.First.{first}
-use Rattle.workflow.specs.Code.{route-room, limit-room, declared-room}
+use Rattle.laws.specs.Every.{every}
+use Rattle.workflow.specs.Code.{node-room, route-room, limit-room, action-room, declared-room}
 use Rattle.workflow.specs.View.{Workflow, workflow, route-at, limit-at, declared-at}
 use Rattle.workflow.specs.Lookup.{are, route-of, limit-of}
 use Rattle.workflow.specs.declared.Found.the-variants.{At, Nothing}
-use Rattle.graph.specs.Form.{chained-from, chained, ascends, route-before, limit-before, declared-before, form}
+use Rattle.graph.specs.Form.{route-fits, limit-fits, declared-fits, chained-from, chained, ascends, route-before, limit-before, declared-before, form}
 
 -- THE CUT: the lowest number below k that fails, or k.
 cut-from : (ℕ → Bool) → (i m : ℕ) → ℕ
@@ -359,6 +360,29 @@ form-sorted f e =
     let b = both _ _ (both _ _ a .1) .1 in
     let c = both _ _ (both _ _ b .1) .1 in
     record { routes = both _ _ a .0; limits = both _ _ b .0; declared = both _ _ c .0 }
+
+-- THE PARTS OF THE FORM.
+pub record Parts (f : Workflow) : Type 0 where
+  pub few-nodes : f .node-count ≤ node-room
+  pub few-actions : f .action-count ≤ action-room
+  pub routes-fit : every (route-fits f) (f .routes) ≡ true
+  pub limits-fit : every (limit-fits f) (f .limits) ≡ true
+  pub declared-fit : every (declared-fits f) (f .declared) ≡ true
+
+pub parts-of : (f : Workflow) → form f ≡ true → Parts f
+unfolding form
+parts-of f e =
+    let counts = both _ _ e .0 in
+    let routes = both _ _ (both _ _ (both _ _ (both _ _ e .1) .1) .1) .1 in
+    let limits = both _ _ (both _ _ routes .1) .1 in
+    let declared = both _ _ (both _ _ limits .1) .1 in
+    record {
+      few-nodes = leb-true _ _ (both _ _ counts .0);
+      few-actions = leb-true _ _ (both _ _ (both _ _ (both _ _ (both _ _ counts .1) .1) .1) .0);
+      routes-fit = both _ _ routes .0;
+      limits-fit = both _ _ limits .0;
+      declared-fit = both _ _ declared .0;
+    }
 
 -- A TABLE of rows with a node, an outcome and a value, column by column.
 record Table {A : Type 0} (w : List ℕ) (a b t k : ℕ) (f : ℕ → A) (node outcome value : A → ℕ) : Type 0 where

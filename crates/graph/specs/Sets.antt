@@ -1,5 +1,5 @@
 -- Reached nodes, as a 64-bit set (W14 and W15 of graph.rs).
-use mathlib.Core.Bool.{Bool, true, false, not}
+use mathlib.Core.Bool.{Bool, true, false}
 use mathlib.Core.List.{List, [], _∷_}
 use Prim.Native.Nat.{ℕ, zero, suc, _/_, _%_, _^_}
 use lib.Dec.{leb, eqb}

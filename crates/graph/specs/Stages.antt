@@ -7,8 +7,7 @@ use lib.Dec.{eqb, ltb}
 use borrow.Author.Tests.{eq-eqb, ne-eqb}
 use Rattle.laws.specs.Bool.{if_then_else_, _and_}
 use Rattle.laws.specs.Rows.{span}
-use Rattle.laws.specs.First.{first}
-use Rattle.laws.specs.In.{In, Hit, hit, miss, hits}
+use Rattle.laws.specs.In.{Hit, hit, miss, hits}
 use Rattle.workflow.specs.declared.Ceilings.{Ceilings}
 use Rattle.workflow.specs.declared.Found.{Found}
 use Rattle.workflow.specs.declared.Found.the-variants.{At, Nothing}

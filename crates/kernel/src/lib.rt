@@ -2,12 +2,12 @@
 use graph::Verdict;
 use graph::held;
 use model::State;
-use workflow::code;
 use model::event::Event;
 use model::event::Limits;
 use model::event::Mappings;
 use workflow::Ceilings;
 use workflow::NUMBERS;
+use workflow::code;
 ghost use mathlib.Core.Path.{_≡_};
 ghost use Prim.Native.Nat.{_+_};
 ghost use lib.Dec.{eqb};

@@ -1,13 +1,13 @@
 -- Elements of a list, and what a test of the whole list says of each.
-use mathlib.Core.Path.{_≡_, refl, sym, _∙_}
-use mathlib.Core.Bool.{Bool, true, false, not, false≢true}
+use mathlib.Core.Path.{_≡_, refl, sym}
+use mathlib.Core.Bool.{Bool, true, false, false≢true}
 use mathlib.Core.Logic.{_⊎_, inl, inr, ⊎-elim}
 use mathlib.Core.List.{List, [], _∷_}
 use Prim.Native.Nat.{ℕ, zero, suc, _+_, _≤_, _<_}
 use native.Mathlib.Omega.{arith}
 use lib.Dec.{eqb}
 use borrow.Author.Tests.{eqb-true, eqb-false}
-use Rattle.laws.specs.Bool.{if_then_else_, _and_, split, both, join}
+use Rattle.laws.specs.Bool.{if_then_else_, split, both, join}
 use Rattle.laws.specs.Rows.{span, span-more, span-none}
 use Rattle.laws.specs.First.{first, some}
 use Rattle.laws.specs.Every.{every, below}

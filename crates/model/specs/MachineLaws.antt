@@ -6,6 +6,7 @@ use native.Mathlib.Omega.{arith}
 use borrow.Author.Tests.{ltb-true, ltb-false, lt-ltb, le-ltb, lt-leb}
 use lib.Dec.{ltb, leb, eqb}
 use Rattle.laws.specs.Bool.{if_then_else_, _and_, split, if-true, if-false}
+use Rattle.workflow.specs.Code.{none, exhausted, scheduled, resolve-complete, resolve-retry, note-exhausted, note-not-applicable, mismatch, not-unknown, undeclared}
 use Rattle.workflow.specs.declared.Found.{Found}
 use Rattle.workflow.specs.declared.Found.the-variants.{At, Nothing}
 use Rattle.workflow.specs.View.{Workflow}
@@ -21,7 +22,6 @@ use Rattle.model.specs.declared.machine.Way.{Way}
 use Rattle.model.specs.declared.moves.Next.{Next}
 use Rattle.model.specs.declared.moves.Next.the-variants.{Rest, Enter, Refuse}
 use Rattle.model.specs.declared.moves.Move.{Move}
-use Rattle.workflow.specs.Code.{none, exhausted, scheduled, resolve-complete, resolve-retry, note-exhausted, note-not-applicable, mismatch, not-unknown, undeclared}
 use Rattle.model.specs.Record.{no-streak, streak-of, with-streak, with-result}
 use Rattle.model.specs.Step.{no-note, no-ending, still, noting, follow-to, route-limited, route, retry, complete-invocation, action-at, resolve-fail, on-resolved}
 
