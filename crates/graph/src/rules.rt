@@ -39,7 +39,7 @@ ghost use lib.Dec.{eqb, ltb};
 ghost use Rattle.laws.specs.Bool.{_and_, _or_};
 ghost use Rattle.laws.specs.Rows.{span};
 ghost use Rattle.laws.specs.First.{some};
-ghost use Rattle.workflow.specs.Code.{format-0-1};
+ghost use Rattle.workflow.specs.Code.{route-room, limit-room, format-0-1};
 ghost use Rattle.workflow.specs.View.{workflow};
 ghost use Rattle.workflow.specs.Lookup.{is-0-2};
 ghost use Rattle.graph.specs.Lowest.{lowest};
@@ -286,7 +286,7 @@ fn has_extra(
 
 // A route of the part leads to no node.
 fn has_astray(w: &[u32; NUMBERS], nodes: u32, from: usize, to: usize) -> bool
-    requires { ⌜ to ≤ 512 ⌝ }
+    requires { ⌜ to ≤ route-room ⌝ }
     ensures { λ r. ⌜ r ≡ some-in from to (astray-at (now (w .entry)) nodes) ⌝ }
 {
     let mut i = from;
@@ -382,7 +382,7 @@ fn has_bad_limit(
     from: usize,
     to: usize,
 ) -> bool
-    requires { ⌜ Outcomes (now w) 2505 from to × (to ≤ 512) ⌝ }
+    requires { ⌜ Outcomes (now w) 2505 from to × (to ≤ limit-room) ⌝ }
     ensures { λ r. ⌜ r ≡ some-in from to (bad-row (now (w .entry)) (now (m .entry)) most) ⌝ }
 {
     let mut i = from;

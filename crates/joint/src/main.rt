@@ -14,7 +14,7 @@ fn number(n: u32) {
 // outcome 4 to 0, exhausted to 3, limit 1 on 4. Node 2 complete, 3 fail. Action 0: effect 1, ok, 2 attempts.
 fn sheet() -> [u32; workflow::NUMBERS] {
     let mut w = [0u32; workflow::NUMBERS];
-    w[workflow::FORMAT] = 2;
+    w[workflow::FORMAT] = workflow::code::FORMAT_0_2;
     w[workflow::MAX_VISITS_PER_NODE] = 3;
     w[workflow::MAX_ACTIVATIONS] = 10;
     w[workflow::NODE_COUNT] = 4;
