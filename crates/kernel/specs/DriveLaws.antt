@@ -28,7 +28,7 @@ use Rattle.model.specs.declared.answer.Decision.{Decision}
 use Rattle.model.specs.declared.moves.Next.{Next}
 use Rattle.model.specs.declared.moves.Next.the-variants.{Rest, Enter, Take, Consume, Wants, Refuse}
 use Rattle.model.specs.declared.moves.Move.{Move}
-use Rattle.model.specs.Code.{none}
+use Rattle.workflow.specs.Code.{none}
 use Rattle.model.specs.Record.{fresh}
 use Rattle.model.specs.Store.{first-signal, signal-at, removed}
 use Rattle.model.specs.Step.{no-note, no-ending, no-mapping, still, arrival, enter, take-signal, apply}

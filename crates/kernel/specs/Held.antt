@@ -27,7 +27,7 @@ use Rattle.model.specs.declared.answer.Ending.{Ending}
 use Rattle.model.specs.declared.moves.Next.{Next}
 use Rattle.model.specs.declared.moves.Next.the-variants.{Rest, Enter, Take, Consume, Wants, Refuse}
 use Rattle.model.specs.declared.moves.Move.{Move}
-use Rattle.model.specs.Code.{activity-result}
+use Rattle.workflow.specs.Code.{activity-result}
 use Rattle.model.specs.Record.{is-terminal, seen}
 use Rattle.model.specs.Store.{stored, first-signal, signal-at, removed}
 use Rattle.model.specs.Step.{no-note, no-ending, still, arrival, enter, take-signal, react, apply}

@@ -25,7 +25,7 @@ use Rattle.model.specs.declared.event.Limits.{Limits}
 use Rattle.model.specs.declared.Output.{Output}
 use Rattle.model.specs.declared.moves.Next.{Next}
 use Rattle.model.specs.declared.moves.Next.the-variants.{Rest, Enter, Take, Consume, Wants, Refuse}
-use Rattle.model.specs.Code.{none, largest, waiting, running, run-completed, run-failed}
+use Rattle.workflow.specs.Code.{none, largest, waiting, running, run-completed, run-failed}
 use Rattle.model.specs.Record.{visits-of, is-terminal, seen, fresh}
 use Rattle.model.specs.EventCheck.{event-fits}
 use Rattle.model.specs.Check.{is-no-invocation, terminal-fits, waits, works, live-fits, consistent, stands}
