@@ -5,11 +5,12 @@ use std::fs;
 use std::path::PathBuf;
 
 use calls::{numbers, Answer, Call, Workflow};
+use generator::{joint, Generator};
 use wrong::Reading;
 
+use crate::compare;
 use crate::counts::{keys, required, Counts};
-use crate::history::Generator;
-use crate::{compare, joint, plain_answer};
+use crate::plain_answer;
 
 /// Calls of the generator that are looked at.
 const TRIED: usize = 300_000;

@@ -1,4 +1,4 @@
-//! Makes a call smaller while something holds of it: every number that may be 0 becomes 0.
+//! Makes a call smaller while something holds of it: every number that may be 0 becomes 0, or else 1.
 
 use calls::{numbers, Call};
 
@@ -6,9 +6,27 @@ pub fn shrink(call: &Call, holds: impl Fn(&Call) -> bool) -> Call {
     let mut best = call.clone();
     for _ in 0..4 {
         let before = best.clone();
-        shrink_sheet(&mut best, &holds);
-        shrink_record(&mut best, &holds);
-        shrink_call(&mut best, &holds);
+        let mut sheet: Vec<u64> = numbers::sheet(&best.workflow).map(u64::from).to_vec();
+        each_number(&mut sheet, |words| {
+            let mut sheet = [0; numbers::SHEET];
+            for (number, word) in sheet.iter_mut().zip(words) {
+                *number = *word as u32;
+            }
+            let workflow = numbers::workflow_of(&sheet);
+            keep(&mut best, |call| call.workflow = workflow, &holds)
+        });
+        if let Some(state) = &best.state {
+            each_number(&mut numbers::record(state), |words| {
+                let Some(state) = numbers::state_of(words) else {
+                    return false;
+                };
+                keep(&mut best, |call| call.state = Some(state), &holds)
+            });
+        }
+        each_number(&mut numbers::call(&best), |words| {
+            let call = numbers::call_of(best.workflow.clone(), words, best.state.clone());
+            call.is_some_and(|smaller| keep(&mut best, |call| *call = smaller, &holds))
+        });
         if best == before {
             break;
         }
@@ -16,63 +34,27 @@ pub fn shrink(call: &Call, holds: impl Fn(&Call) -> bool) -> Call {
     best
 }
 
-fn shrink_sheet(best: &mut Call, holds: &impl Fn(&Call) -> bool) {
-    let mut words = numbers::sheet(&best.workflow);
-    for i in 0..words.len() {
-        let kept = words[i];
-        for smaller in smaller(kept.into()) {
-            words[i] = smaller as u32;
-            let mut call = best.clone();
-            call.workflow = numbers::workflow_of(&words);
-            if holds(&call) {
-                *best = call;
-                break;
-            }
-            words[i] = kept;
-        }
+/// Makes the change if what is to hold still does.
+fn keep(best: &mut Call, change: impl FnOnce(&mut Call), holds: &impl Fn(&Call) -> bool) -> bool {
+    let mut call = best.clone();
+    change(&mut call);
+    let kept = holds(&call);
+    if kept {
+        *best = call;
     }
+    kept
 }
 
-fn shrink_record(best: &mut Call, holds: &impl Fn(&Call) -> bool) {
-    let Some(state) = &best.state else {
-        return;
-    };
-    let mut words = numbers::record(state);
+/// Makes the numbers smaller one after the other; `kept` says whether a change may stay.
+pub fn each_number(words: &mut [u64], mut kept: impl FnMut(&[u64]) -> bool) {
     for i in 0..words.len() {
-        let kept = words[i];
-        for smaller in smaller(kept) {
+        let word = words[i];
+        for smaller in 0..word.min(2) {
             words[i] = smaller;
-            let mut call = best.clone();
-            call.state = numbers::state_of(&words);
-            if call.state.is_some() && holds(&call) {
-                *best = call;
+            if kept(words) {
                 break;
             }
-            words[i] = kept;
+            words[i] = word;
         }
-    }
-}
-
-fn shrink_call(best: &mut Call, holds: &impl Fn(&Call) -> bool) {
-    let mut words = numbers::call(best);
-    for i in 0..words.len() {
-        let kept = words[i];
-        for smaller in smaller(kept) {
-            words[i] = smaller;
-            let call = numbers::call_of(best.workflow.clone(), &words, best.state.clone());
-            if let Some(call) = call.filter(|call| holds(call)) {
-                *best = call;
-                break;
-            }
-            words[i] = kept;
-        }
-    }
-}
-
-fn smaller(number: u64) -> Vec<u64> {
-    match number {
-        0 => vec![],
-        1 => vec![0],
-        _ => vec![0, 1],
     }
 }

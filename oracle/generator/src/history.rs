@@ -20,6 +20,7 @@ pub struct Generator {
     wanted: Option<Event>,
     /// The last result that was sent.
     result: Option<Event>,
+    all_lengths: bool,
 }
 
 impl Generator {
@@ -43,6 +44,25 @@ impl Generator {
             left: 0,
             wanted: None,
             result: None,
+            all_lengths: false,
+        }
+    }
+
+    /// The same with histories of 1 to 512 calls, short ones as likely as long ones.
+    pub fn of_all_lengths(seed: u64) -> Generator {
+        Generator {
+            all_lengths: true,
+            ..Generator::new(seed)
+        }
+    }
+
+    fn length(&mut self) -> usize {
+        match self.all_lengths {
+            true => {
+                let most = 1 << self.rng.below(10);
+                1 + self.rng.below(most)
+            }
+            false => 4 + self.rng.below(26),
         }
     }
 
@@ -55,7 +75,7 @@ impl Generator {
             self.state = None;
             self.wanted = None;
             self.result = None;
-            self.left = 4 + self.rng.below(26);
+            self.left = self.length();
         }
         self.left -= 1;
         if self.rng.percent(14) {

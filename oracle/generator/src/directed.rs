@@ -1,8 +1,8 @@
 //! Calls that chance seldom reaches: Joint A, 130 microsteps, 65 notes and 65 endings.
 
 use calls::{
-    Action, BufferedSignal, Call, Ceilings, Declared, InvocationState, Limit, Node, Position,
-    Route, State, Streak, Workflow, NONE, STORE,
+    BufferedSignal, Call, Ceilings, InvocationState, Node, Position, Rows, State, Streak, Workflow,
+    NONE, STORE,
 };
 
 use crate::joint;
@@ -36,55 +36,31 @@ fn wide(mut call: Call) -> Call {
 /// Node 0: activity, ok to 1, exhausted to 1, limit 1 on ok. Node 1: await signal 5, received and 4 to itself, 5 to 2,
 /// exhausted to itself, limit 1 on 4. Node 2 complete.
 fn sheet() -> Workflow {
-    let mut sheet = Workflow::empty();
-    sheet.format = 2;
-    sheet.max_visits_per_node = 200;
-    sheet.max_activations = 300;
-    sheet.node_count = 3;
-    sheet.nodes[0] = Node {
-        kind: 1,
+    let limited = |kind, signal| Node {
+        kind,
+        signal,
         has_limits: 1,
         ..Node::default()
     };
-    sheet.nodes[1] = Node {
-        kind: 2,
-        signal: 5,
-        has_limits: 1,
+    let complete = Node {
+        kind: 3,
         ..Node::default()
     };
-    sheet.nodes[2].kind = 3;
-    let routes = [
-        (0, 0, 1),
-        (0, 3, 1),
-        (1, 1, 1),
-        (1, 3, 1),
-        (1, 4, 1),
-        (1, 5, 2),
-    ];
-    sheet.route_count = routes.len() as u32;
-    for (i, (node, outcome, target)) in routes.into_iter().enumerate() {
-        sheet.routes[i] = Route {
-            node,
-            outcome,
-            target,
-        };
-    }
-    sheet.limit_count = 2;
-    for (i, (node, outcome)) in [(0, 0), (1, 4)].into_iter().enumerate() {
-        sheet.limits[i] = Limit {
-            node,
-            outcome,
-            limit: 1,
-        };
-    }
-    sheet.action_count = 1;
-    sheet.actions[0] = Action {
-        effect: 0,
-        max_attempts: 1,
+    let rows = Rows {
+        nodes: &[limited(1, 0), limited(2, 5), complete],
+        routes: &[
+            (0, 0, 1),
+            (0, 3, 1),
+            (1, 1, 1),
+            (1, 3, 1),
+            (1, 4, 1),
+            (1, 5, 2),
+        ],
+        limits: &[(0, 0, 1), (1, 4, 1)],
+        actions: &[(0, 1)],
+        declared: &[(0, 0)],
     };
-    sheet.declared_count = 1;
-    sheet.declared[0] = Declared::default();
-    sheet
+    Workflow::of(200, 300, &rows)
 }
 
 fn full(outcome: u32) -> State {
