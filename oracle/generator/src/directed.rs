@@ -88,8 +88,8 @@ fn waiting(outcome: u32) -> State {
     state
 }
 
-/// An arrival that routes, then 64 stored signals.
-fn spin(outcome: u32) -> Call {
+/// An arrival that routes, then 64 stored signals: 130 microsteps where their outcome routes too.
+pub fn spin(outcome: u32) -> Call {
     let state = waiting(outcome);
     wide(joint::call(&sheet(), Some(&state), joint::signal(5, NONE)))
 }
