@@ -2,7 +2,7 @@
 
 use calls::{
     BufferedSignal, Call, Ceilings, InvocationState, Node, Position, Rows, State, Streak, Workflow,
-    NONE, STORE,
+    ACTIONS, NODES, NONE, STORE,
 };
 
 use crate::joint;
@@ -21,6 +21,39 @@ pub fn calls() -> Vec<Call> {
         calls.push(from_result(outcome));
     }
     calls
+}
+
+/// Starts on a full sheet, and on the same with one node or one action counted that there is no room for. What would be
+/// read as its row, the first numbers of the next columns, has the form of one.
+pub fn over_room() -> Vec<Call> {
+    let mut nodes = [Node {
+        kind: 1,
+        action: 1,
+        ..Node::default()
+    }; NODES];
+    nodes[NODES - 1] = Node {
+        kind: 3,
+        ..Node::default()
+    };
+    let routes: Vec<_> = (0..NODES as u32 - 1).map(|n| (n, 0, n + 1)).collect();
+    let declared: Vec<_> = (0..ACTIONS as u32).map(|action| (action, 0)).collect();
+    let rows = Rows {
+        nodes: &nodes,
+        routes: &routes,
+        limits: &[],
+        actions: &[(0, 1); ACTIONS],
+        declared: &declared,
+    };
+    let right = Workflow::of(200, 300, &rows);
+    let mut sheets = vec![right.clone(), right.clone(), right];
+    sheets[1].node_count += 1;
+    sheets[2].action_count += 1;
+    let start = |sheet: &Workflow| {
+        let mut call = wide(joint::call(sheet, None, joint::start()));
+        call.ceilings.nodes = 100;
+        call
+    };
+    sheets.iter().map(start).collect()
 }
 
 fn wide(mut call: Call) -> Call {

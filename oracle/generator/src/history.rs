@@ -48,12 +48,12 @@ impl Generator {
         }
     }
 
-    /// The same with histories of 1 to 512 calls, short ones as likely as long ones.
+    /// The same with more directed calls, and histories of 1 to 512 calls, short ones as likely as long ones.
     pub fn of_all_lengths(seed: u64) -> Generator {
-        Generator {
-            all_lengths: true,
-            ..Generator::new(seed)
-        }
+        let mut generator = Generator::new(seed);
+        generator.directed.extend(directed::over_room());
+        generator.all_lengths = true;
+        generator
     }
 
     fn length(&mut self) -> usize {

@@ -154,7 +154,7 @@ impl Comparison {
             println!("not reached: {key}");
         }
         println!("{} calls, {differences} differences", counts.calls);
-        differences == 0 && missing.is_empty()
+        differences == 0 && (self.first || missing.is_empty())
     }
 }
 
