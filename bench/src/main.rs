@@ -90,22 +90,10 @@ fn verdicts() {
     }
 }
 
-fn decide(call: &Call, out: &mut Decision) {
-    plain::transition(
-        &call.workflow,
-        call.state.as_ref(),
-        &call.event,
-        &call.mappings,
-        &call.ceilings,
-        &call.limits,
-        out,
-    );
-}
-
 /// The record that a call leaves.
 fn after(call: &Call) -> State {
     let mut out = Decision::new();
-    decide(call, &mut out);
+    out.decide(call);
     out.state
 }
 
@@ -161,7 +149,7 @@ fn show_call(name: &str, call: &Call) {
     let mut out = Decision::new();
     let (mut theirs, mut ours) = ([0; ANSWER], [0; ANSWER]);
 
-    decide(call, &mut out);
+    out.decide(call);
     assert_eq!(original::answer(call), out.answer(), "{name}");
     assert_eq!(boundary::transition(&sheet, &words, &lent, &mut theirs), 0);
     assert_eq!(numbers::answer(&out.answer()).unwrap(), theirs, "{name}");
@@ -173,7 +161,7 @@ fn show_call(name: &str, call: &Call) {
             black_box(black_box(&asked).transition().is_ok());
         },
         &mut || {
-            decide(black_box(call), &mut out);
+            out.decide(black_box(call));
             black_box(&out);
         },
         &mut || {

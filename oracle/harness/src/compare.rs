@@ -10,7 +10,6 @@ use generator::rng::Rng;
 use generator::Generator;
 
 use crate::counts::Counts;
-use crate::plain_answer;
 use crate::shrink::shrink;
 
 /// Differences that are printed of one seed.
@@ -46,7 +45,7 @@ pub struct Side {
 
 pub const PLAIN: Side = Side {
     name: "plain",
-    answer: |call| Ok(plain_answer(call)),
+    answer: |call| Ok(plain::answer(call)),
 };
 
 /// A call with some of its numbers changed: under what name it is counted, or what differs.
@@ -252,7 +251,7 @@ pub fn recorded(files: &[String]) -> Result<bool, String> {
             read += 1;
             for (who, found) in [
                 ("original", original::answer(&call)),
-                ("plain", plain_answer(&call)),
+                ("plain", plain::answer(&call)),
             ] {
                 if found != answer {
                     differences += 1;

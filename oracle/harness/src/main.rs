@@ -23,26 +23,10 @@ mod shrink;
 
 use std::process::ExitCode;
 
-use calls::{text, Answer, Call};
+use calls::text;
 use generator::{joint, Generator};
-use plain::Decision;
 
 use compare::Comparison;
-
-/// The plain reading's answer.
-pub fn plain_answer(call: &Call) -> Answer {
-    let mut out = Decision::new();
-    plain::transition(
-        &call.workflow,
-        call.state.as_ref(),
-        &call.event,
-        &call.mappings,
-        &call.ceilings,
-        &call.limits,
-        &mut out,
-    );
-    out.answer()
-}
 
 struct Arguments {
     seeds: Vec<u64>,
@@ -117,7 +101,7 @@ fn joint() -> bool {
     for case in joint::cases() {
         for (who, answer) in [
             ("original", original::answer(&case.call)),
-            ("plain", plain_answer(&case.call)),
+            ("plain", plain::answer(&case.call)),
         ] {
             let agrees = answer == case.expected;
             good &= agrees;
@@ -173,7 +157,7 @@ mod tests {
     fn joint_a() {
         for case in joint::cases() {
             assert_eq!(original::answer(&case.call), case.expected, "{}", case.name);
-            assert_eq!(plain_answer(&case.call), case.expected, "{}", case.name);
+            assert_eq!(plain::answer(&case.call), case.expected, "{}", case.name);
         }
     }
 
