@@ -45,7 +45,7 @@ pub fn over_room() -> Vec<Call> {
         declared: &declared,
     };
     let right = Workflow::of(200, 300, &rows);
-    let mut sheets = vec![right.clone(), right.clone(), right];
+    let mut sheets = [right.clone(), right.clone(), right];
     sheets[1].node_count += 1;
     sheets[2].action_count += 1;
     let start = |sheet: &Workflow| {

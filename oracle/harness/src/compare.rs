@@ -104,22 +104,23 @@ impl Comparison {
         for n in 0..calls {
             let call = generator.call();
             let original = self.original(&call);
-            if self.differs(&call, &original) {
+            let differs = self.differs(&call, &original);
+            let probe = self.probe.filter(|_| !differs && rng.one_in(8));
+            let probed = probe.map(|probe| probe(&mut rng, &call));
+            if let Some(Ok(said)) = &probed {
+                counts.add_one(format!("boundary says {said}"));
+            }
+            let parted = probed.and_then(Result::err);
+            if differs || parted.is_some() {
                 differences += 1;
-                if differences <= PRINTED {
+            }
+            if differences <= PRINTED {
+                if differs {
                     println!("DIFFERENCE at seed {seed}, call {n}");
                     self.print(&call);
                 }
-            }
-            if let Some(probe) = self.probe.filter(|_| rng.one_in(8)) {
-                match probe(&mut rng, &call) {
-                    Ok(said) => counts.add_one(format!("boundary says {said}")),
-                    Err(why) => {
-                        differences += 1;
-                        if differences <= PRINTED {
-                            println!("DIFFERENCE at seed {seed}, call {n}, {why}");
-                        }
-                    }
+                if let Some(why) = parted {
+                    println!("DIFFERENCE at seed {seed}, call {n}, changed: {why}");
                 }
             }
             if self.first && differences > 0 {

@@ -96,7 +96,7 @@ pub fn verdict(sheet: &Sheet, ceilings: Ceilings) -> Option<Refusal> {
     } = ceilings;
     // SAFETY: the sheet is a reference of the length that the header names, and is not kept.
     let said = unsafe { library::kuxhoveza_verdict(sheet, nodes, visits, activations, attempts) };
-    (said != 0).then(|| Refusal {
+    (said != 0).then_some(Refusal {
         number: (said / 256) as u32,
         item: (said % 256) as u32,
     })
