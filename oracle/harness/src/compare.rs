@@ -48,7 +48,7 @@ pub const PLAIN: Side = Side {
     answer: |call| Ok(plain::answer(call)),
 };
 
-/// A call with some of its numbers changed: under what name it is counted, or what differs.
+/// A call with some of its numbers changed: what the boundary says, or what differs.
 pub type Probe = fn(&mut Rng, &Call) -> Result<u32, String>;
 
 /// How the original is compared.
