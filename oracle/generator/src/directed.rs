@@ -1,4 +1,4 @@
-//! Calls that chance seldom reaches: Joint A, 130 microsteps, 65 notes and 65 endings.
+//! Calls that chance seldom reaches: Joint A, 130 microsteps, 65 notes and 65 endings, counts at their edge.
 
 use calls::{
     BufferedSignal, Call, Ceilings, InvocationState, Node, Position, Rows, State, Streak, Workflow,
@@ -23,37 +23,46 @@ pub fn calls() -> Vec<Call> {
     calls
 }
 
-/// Starts on a full sheet, and on the same with one node or one action counted that there is no room for. What would be
-/// read as its row, the first numbers of the next columns, has the form of one.
-pub fn over_room() -> Vec<Call> {
-    let mut nodes = [Node {
-        kind: 1,
-        action: 1,
-        ..Node::default()
-    }; NODES];
-    nodes[NODES - 1] = Node {
-        kind: 3,
+/// Starts on sheets at the edge of a count: a full one, the same with a node or an action counted that there is no room
+/// for, and one that names the action after the last. What would be read as the row that isn't there has the form of one.
+pub fn at_counts() -> Vec<Call> {
+    let of_kind = |kind, action| Node {
+        kind,
+        action,
         ..Node::default()
     };
+    let mut nodes = [of_kind(1, 1); NODES];
+    nodes[NODES - 1] = of_kind(3, 0);
     let routes: Vec<_> = (0..NODES as u32 - 1).map(|n| (n, 0, n + 1)).collect();
     let declared: Vec<_> = (0..ACTIONS as u32).map(|action| (action, 0)).collect();
-    let rows = Rows {
+    let full = Rows {
         nodes: &nodes,
         routes: &routes,
         limits: &[],
         actions: &[(0, 1); ACTIONS],
         declared: &declared,
     };
-    let right = Workflow::of(200, 300, &rows);
-    let mut sheets = [right.clone(), right.clone(), right];
-    sheets[1].node_count += 1;
-    sheets[2].action_count += 1;
+    let full = Workflow::of(200, 300, &full);
+    let [mut node_more, mut action_more] = [full.clone(), full.clone()];
+    node_more.node_count += 1;
+    action_more.action_count += 1;
+    let after_the_last = Rows {
+        nodes: &[of_kind(1, 1), of_kind(3, 0)],
+        routes: &[(0, 2, 1)],
+        limits: &[],
+        actions: &[(0, 1)],
+        declared: &[(0, 0)],
+    };
+    let after_the_last = Workflow::of(200, 300, &after_the_last);
     let start = |sheet: &Workflow| {
         let mut call = wide(joint::call(sheet, None, joint::start()));
         call.ceilings.nodes = 100;
         call
     };
-    sheets.iter().map(start).collect()
+    [full, node_more, action_more, after_the_last]
+        .iter()
+        .map(start)
+        .collect()
 }
 
 fn wide(mut call: Call) -> Call {

@@ -51,7 +51,7 @@ impl Generator {
     /// The same with more directed calls, and histories of 1 to 512 calls, short ones as likely as long ones.
     pub fn of_all_lengths(seed: u64) -> Generator {
         let mut generator = Generator::new(seed);
-        generator.directed.extend(directed::over_room());
+        generator.directed.extend(directed::at_counts());
         generator.all_lengths = true;
         generator
     }
