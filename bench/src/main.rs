@@ -3,23 +3,15 @@
 //! The sides of a case are timed in turns, many rounds of each; the least time of a side counts, and a ratio is that
 //! of least times. Before that their answers are compared.
 
-mod sheets;
-
 use std::hint::black_box;
 use std::time::Instant;
 
 use calls::numbers::{self, ANSWER};
-use calls::{Call, Ceilings, State, Workflow, NONE};
+use calls::{Call, State, Workflow, NONE};
+use generator::full::{self, CEILINGS};
 use generator::{directed, joint};
 use original::Asked;
 use plain::Decision;
-
-const CEILINGS: Ceilings = Ceilings {
-    nodes: 64,
-    visits: 1000,
-    activations: 10000,
-    attempts: 100,
-};
 
 const ROUNDS: usize = 60;
 /// A round of one side takes about so many nanoseconds.
@@ -81,9 +73,9 @@ fn verdicts() {
     println!("|---|---|---|---|---|---|");
     show_verdict("Joint A", &joint::sheet());
     for n in [8, 16, 32, 64] {
-        show_verdict(&format!("{n} nodes"), &sheets::full(n));
+        show_verdict(&format!("{n} nodes"), &full::sheet(n));
     }
-    for (rule, workflow) in sheets::refused() {
+    for (rule, workflow) in full::refused() {
         let verdict = plain::verdict(&workflow, &CEILINGS);
         assert_eq!(verdict.map(|(number, _)| number), Some(rule));
         show_verdict(&format!("refused with {rule}"), &workflow);
@@ -119,14 +111,14 @@ fn cases() -> Vec<(String, Call)> {
         ceilings: CEILINGS,
         ..joint::call(workflow, None, joint::start())
     };
-    add("start on a full sheet", start(&sheets::full(64)));
-    let waiting = after(&start(&sheets::full(64)));
+    add("start on a full sheet", start(&full::sheet(64)));
+    let waiting = after(&start(&full::sheet(64)));
     let result = Call {
         ceilings: CEILINGS,
-        ..joint::call(&sheets::full(64), Some(&waiting), joint::result(0, 1, 1, 1))
+        ..joint::call(&full::sheet(64), Some(&waiting), joint::result(0, 1, 1, 1))
     };
     add("success on a full sheet", result);
-    for (rule, workflow) in sheets::refused() {
+    for (rule, workflow) in full::refused() {
         if [5, 12, 15].contains(&rule) {
             add(
                 &format!("a full sheet refused with {rule}"),

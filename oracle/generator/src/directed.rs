@@ -1,11 +1,11 @@
-//! Calls that chance seldom reaches: Joint A, 130 microsteps, 65 notes and 65 endings, counts at their edge.
+//! Calls that chance seldom reaches: Joint A, 130 microsteps, 65 notes and 65 endings, full sheets.
 
 use calls::{
     BufferedSignal, Call, Ceilings, InvocationState, Node, Position, Rows, State, Streak, Workflow,
     ACTIONS, NODES, NONE, STORE,
 };
 
-use crate::joint;
+use crate::{full, joint};
 
 pub fn calls() -> Vec<Call> {
     let mut calls: Vec<Call> = joint::cases().into_iter().map(|case| case.call).collect();
@@ -23,8 +23,8 @@ pub fn calls() -> Vec<Call> {
     calls
 }
 
-/// Starts on sheets at the edge of a count: a full one, the same with a node or an action counted that there is no room
-/// for, and one that names the action after the last. What would be read as the row that isn't there has the form of one.
+/// Starts on full sheets, on one with a node or an action counted that there is no room for, and on one that names the
+/// action after the last. What would be read as the row that isn't there has the form of one.
 pub fn at_counts() -> Vec<Call> {
     let of_kind = |kind, action| Node {
         kind,
@@ -35,15 +35,15 @@ pub fn at_counts() -> Vec<Call> {
     nodes[NODES - 1] = of_kind(3, 0);
     let routes: Vec<_> = (0..NODES as u32 - 1).map(|n| (n, 0, n + 1)).collect();
     let declared: Vec<_> = (0..ACTIONS as u32).map(|action| (action, 0)).collect();
-    let full = Rows {
+    let all_used = Rows {
         nodes: &nodes,
         routes: &routes,
         limits: &[],
         actions: &[(0, 1); ACTIONS],
         declared: &declared,
     };
-    let full = Workflow::of(200, 300, &full);
-    let [mut node_more, mut action_more] = [full.clone(), full.clone()];
+    let all_used = Workflow::of(200, 300, &all_used);
+    let [mut node_more, mut action_more] = [all_used.clone(), all_used.clone()];
     node_more.node_count += 1;
     action_more.action_count += 1;
     let after_the_last = Rows {
@@ -54,15 +54,16 @@ pub fn at_counts() -> Vec<Call> {
         declared: &[(0, 0)],
     };
     let after_the_last = Workflow::of(200, 300, &after_the_last);
+    let mut sheets = vec![all_used, node_more, action_more, after_the_last];
+    sheets.push(full::sheet(64));
+    sheets.extend(full::refused().into_iter().map(|(_, sheet)| sheet));
     let start = |sheet: &Workflow| {
-        let mut call = wide(joint::call(sheet, None, joint::start()));
+        let mut call = joint::call(sheet, None, joint::start());
+        call.ceilings = full::CEILINGS;
         call.ceilings.nodes = 100;
         call
     };
-    [full, node_more, action_more, after_the_last]
-        .iter()
-        .map(start)
-        .collect()
+    sheets.iter().map(start).collect()
 }
 
 fn wide(mut call: Call) -> Call {
@@ -105,7 +106,7 @@ fn sheet() -> Workflow {
     Workflow::of(200, 300, &rows)
 }
 
-fn full(outcome: u32) -> State {
+fn stored(outcome: u32) -> State {
     let mut state = State::fresh(42);
     state.last_sequence = 70;
     state.signal_count = STORE as u32;
@@ -122,7 +123,7 @@ fn full(outcome: u32) -> State {
 }
 
 fn waiting(outcome: u32) -> State {
-    let mut state = full(outcome);
+    let mut state = stored(outcome);
     state.status = 2;
     state.position = Position { node: 1, visit: 1 };
     state.visits[1] = 1;
@@ -148,7 +149,7 @@ fn noted(outcome: u32) -> Call {
 
 /// A success whose limit is used up, then 64 stored signals.
 fn from_result(outcome: u32) -> Call {
-    let mut state = full(outcome);
+    let mut state = stored(outcome);
     state.position = Position { node: 0, visit: 2 };
     state.visits[0] = 2;
     state.activations = 3;

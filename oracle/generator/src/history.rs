@@ -7,7 +7,7 @@ use calls::{
 
 use crate::records::{self, CODES, NAMES};
 use crate::rng::{Rng, EDGES, LONG_EDGES};
-use crate::{directed, sheets};
+use crate::{directed, full, sheets};
 
 /// Gives one call after the other; the answer to each is told to it.
 pub struct Generator {
@@ -48,7 +48,7 @@ impl Generator {
         }
     }
 
-    /// The same with more directed calls, and histories of 1 to 512 calls, short ones as likely as long ones.
+    /// The same with full sheets among them, and histories of 1 to 512 calls, short ones as likely as long ones.
     pub fn of_all_lengths(seed: u64) -> Generator {
         let mut generator = Generator::new(seed);
         generator.directed.extend(directed::at_counts());
@@ -71,7 +71,10 @@ impl Generator {
             return call;
         }
         if self.left == 0 {
-            self.workflow = sheets::right(&mut self.rng);
+            self.workflow = match self.all_lengths && self.rng.one_in(40) {
+                true => full::sheet(2 + self.rng.small(63)),
+                false => sheets::right(&mut self.rng),
+            };
             self.state = None;
             self.wanted = None;
             self.result = None;

@@ -1,9 +1,17 @@
-//! Sheets to judge: small ones, full ones, and full ones that a rule refuses.
+//! Sheets with every row used, and such that a rule refuses.
 
-use calls::{Node, Rows, Workflow};
+use calls::{Ceilings, Node, Route, Rows, Workflow};
+
+/// Under these the sheets are accepted, or refused by the rule that is named.
+pub const CEILINGS: Ceilings = Ceilings {
+    nodes: 64,
+    visits: 1000,
+    activations: 10000,
+    attempts: 100,
+};
 
 /// A sheet of `n` nodes; at 64 it has 512 routes, 256 declared outcomes and a limit on every routed outcome but exhausted.
-pub fn full(n: u32) -> Workflow {
+pub fn sheet(n: u32) -> Workflow {
     let mut nodes = Vec::new();
     let mut routes = Vec::new();
     let mut limits = Vec::new();
@@ -65,7 +73,7 @@ pub fn full(n: u32) -> Workflow {
 /// The full sheet with one thing changed, which the rule of that number refuses.
 pub fn refused() -> Vec<(u32, Workflow)> {
     let with = |rule: u32, change: &dyn Fn(&mut Workflow)| {
-        let mut sheet = full(64);
+        let mut sheet = sheet(64);
         change(&mut sheet);
         (rule, sheet)
     };
@@ -91,7 +99,7 @@ pub fn refused() -> Vec<(u32, Workflow)> {
             sheet.limits[sheet.limit_count as usize - 1].limit = 1000;
         }),
         with(14, &|sheet| {
-            let to_62 = |row: &&mut calls::Route| row.node == 61 && row.target == 62;
+            let to_62 = |row: &&mut Route| row.node == 61 && row.target == 62;
             for row in sheet.routes.iter_mut().filter(to_62) {
                 row.target = 63;
             }
