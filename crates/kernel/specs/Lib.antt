@@ -8,4 +8,5 @@ pub mod Decision
 pub mod DriveLaws
 pub mod Hold
 pub mod Whole
+pub mod Calls
 pub mod Admission
