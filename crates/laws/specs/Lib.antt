@@ -8,3 +8,4 @@ pub mod Shift
 pub mod Settle
 pub mod Arrays
 pub mod Tests
+pub mod Splice

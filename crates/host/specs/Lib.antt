@@ -1,0 +1,4 @@
+pub mod Read
+pub mod ReadLaws
+pub mod Write
+pub mod WriteLaws
