@@ -43,6 +43,7 @@ or-32 a b = go (is-32 a) (is-32 b) refl refl
   where
     above : (x : ℕ) → 2 ^ 32 ≤ x → x ≤ bitOr a b → is-32 (bitOr a b) ≡ false
     above x g h = le-ltb (bitOr a b) (2 ^ 32) (omega arith)
+
     go : (x y : Bool) → is-32 a ≡ x → is-32 b ≡ y → is-32 (bitOr a b) ≡ (x && y)
     go true true e f = lt-ltb (bitOr a b) (2 ^ 32) (or-lt 32 a b (ltb-true a (2 ^ 32) e) (ltb-true b (2 ^ 32) f))
     go true false e f = above b (ltb-false b (2 ^ 32) f) (omega (arith, or-add-and a b, and-le-l a b))

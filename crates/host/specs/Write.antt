@@ -33,12 +33,19 @@ unfoldable pub ending-numbers : Ending → List ℕ
 ending-numbers x = x .sequence ∷ x .ending ∷ []
 
 -- THE RUN RECORD: 918 numbers.
+unfoldable pub scalar-numbers : State → List ℕ
+scalar-numbers s =
+    s .status ∷ s .input ∷ s .activations ∷ s .«last_sequence» ∷ s .«last_accepted_at» ∷ s .position .node ∷ s .position .visit
+    ∷ s .invocation .phase ∷ s .invocation .node ∷ s .invocation .visit ∷ s .invocation .action ∷ s .invocation .attempt ∷ s .invocation .input ∷ []
+
+-- up to the rows
+unfoldable pub head-numbers : State → List ℕ
+head-numbers s = scalar-numbers s ++ kept-numbers (s .invocation .error) ++ output-numbers (s .result .output) ++ (s .«signal_count» ∷ [])
+
 unfoldable pub record-numbers : State → List ℕ
 record-numbers s =
-    (s .status ∷ s .input ∷ s .activations ∷ s .«last_sequence» ∷ s .«last_accepted_at» ∷ s .position .node ∷ s .position .visit
-    ∷ s .invocation .phase ∷ s .invocation .node ∷ s .invocation .visit ∷ s .invocation .action ∷ s .invocation .attempt ∷ s .invocation .input ∷ [])
-    ++ kept-numbers (s .invocation .error) ++ output-numbers (s .result .output) ++ (s .«signal_count» ∷ [])
-    ++ flatMap signal-numbers (s .signals) ++ flatMap visits-numbers (s .visits) ++ flatMap streak-numbers (s .streaks) ++ flatMap result-numbers (s .results)
+    head-numbers s ++ flatMap signal-numbers (s .signals) ++ flatMap visits-numbers (s .visits)
+    ++ flatMap streak-numbers (s .streaks) ++ flatMap result-numbers (s .results)
 
 -- THE ANSWER: 1386 numbers. A refusal has no record.
 unfoldable pub state-numbers : Answer → State → List ℕ

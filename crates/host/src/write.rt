@@ -13,7 +13,7 @@ ghost use mathlib.Core.List.{flatMap};
 ghost use Prim.Native.Nat.{_+_, _≤_};
 ghost use lib.ListN.{length};
 ghost use Rattle.laws.specs.Splice.{splice};
-ghost use Rattle.host.specs.Write.{signal-numbers, visits-numbers, streak-numbers, result-numbers, note-numbers, ending-numbers, record-numbers, state-numbers, decision-numbers};
+ghost use Rattle.host.specs.Write.{signal-numbers, visits-numbers, streak-numbers, result-numbers, note-numbers, ending-numbers, scalar-numbers, head-numbers, record-numbers, state-numbers, decision-numbers};
 
 fn write(out: &mut [u64], at: usize, xs: &[u64])
     requires { ⌜ at + length (now xs) ≤ length (now out) ⌝ }
@@ -118,13 +118,12 @@ fn write_endings(out: &mut [u64], at: usize, xs: [Ending; 65])
     }
 }
 
-fn write_record(out: &mut [u64], at: usize, s: State)
-    requires { ⌜ at + 918 ≤ length (now out) ⌝ }
-    ensures { λ _. ⌜ now (out .exit) ≡ splice (now (out .entry)) at (record-numbers s) ⌝ }
+fn scalars(s: State) -> [u64; 13]
+    ensures { λ r. ⌜ r ≡ scalar-numbers s ⌝ }
 {
     let position = s.position;
     let invocation = s.invocation;
-    let head = [
+    [
         s.status as u64,
         s.input as u64,
         s.activations as u64,
@@ -138,21 +137,37 @@ fn write_record(out: &mut [u64], at: usize, s: State)
         invocation.action as u64,
         invocation.attempt as u64,
         invocation.input as u64,
-    ];
+    ]
+}
+
+// A record up to its rows.
+fn write_head(out: &mut [u64], at: usize, s: State)
+    requires { ⌜ at + 22 ≤ length (now out) ⌝ }
+    ensures { λ _. ⌜ now (out .exit) ≡ splice (now (out .entry)) at (head-numbers s) ⌝ }
+{
+    let invocation = s.invocation;
     let error = invocation.error;
+    let result = s.result;
+    let output = result.output;
+    let first = scalars(s);
     let kept = error.numbers();
-    let ended = s.result;
-    let output = ended.output;
-    let result = output.numbers();
+    let ended = output.numbers();
     let count = [s.signal_count as u64];
+    write(out, at, &first);
+    write(out, at + 13, &kept);
+    write(out, at + 17, &ended);
+    write(out, at + 21, &count);
+}
+
+fn write_record(out: &mut [u64], at: usize, s: State)
+    requires { ⌜ at + 918 ≤ length (now out) ⌝ }
+    ensures { λ _. ⌜ now (out .exit) ≡ splice (now (out .entry)) at (record-numbers s) ⌝ }
+{
     let signals = s.signals;
     let visits = s.visits;
     let streaks = s.streaks;
     let results = s.results;
-    write(out, at, &head);
-    write(out, at + 13, &kept);
-    write(out, at + 17, &result);
-    write(out, at + 21, &count);
+    write_head(out, at, s);
     write_signals(out, at + 22, signals);
     write_visits(out, at + 342, visits);
     write_streaks(out, at + 406, streaks);

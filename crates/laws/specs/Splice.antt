@@ -41,7 +41,7 @@ module _ {A : Type 0} (xs : List A) (at : ℕ) where
       let k : n + length zs ≡ length (take at xs ++ ys) + length zs = omega arith in
       let m : at + length ys + length zs ≡ at + length (ys ++ zs) = rw length-append (omega arith) in
       let back : drop (n + length zs) (take at xs ++ ys ++ drop (at + length ys) xs) ≡ drop (at + length (ys ++ zs)) xs =
-          rw k (drop-append-add (take at xs ++ ys) _ (length zs) ∙ drop-drop (length zs) (at + length ys) xs ∙ ap (λ j. drop j xs) m) in
+      rw k (drop-append-add (take at xs ++ ys) _ (length zs) ∙ drop-drop (length zs) (at + length ys) xs ∙ ap (λ j. drop j xs) m) in
       rw (front, back) (ap (λ (l : List A). l ++ drop (at + length (ys ++ zs)) xs) (append-assoc (take at xs) ys zs))
 
 -- A whole list written over another of its length.
@@ -136,7 +136,7 @@ module _ {A B : Type 0} {f : A → List B} {w : ℕ} {xs : List A} {at i : ℕ} 
       let t = length-take-le i xs (omega arith) in
       let g : length (flatMap f (take i xs)) ≡ w * i = length-flat f w (inv .wide) (take i xs) ∙ rw t in
       let s : splice l k (f (getD xs i d)) ≡ splice l₀ at (flatMap f (take (i + 1) xs)) =
-          rw (inv .so-far, add-one, take-suc xs i d h, flat-append) (splice-more l₀ at (flatMap f (take i xs)) (f (getD xs i d)) k (omega arith) (omega arith)) in
+      rw (inv .so-far, add-one, take-suc xs i d h, flat-append) (splice-more l₀ at (flatMap f (take i xs)) (f (getD xs i d)) k (omega arith) (omega arith)) in
       let n = inv .long in
       record { so-far = e ∙ s; wide = inv .wide; long = rw e (length-splice l k (f (getD xs i d)) (omega arith) ∙ n) }
 

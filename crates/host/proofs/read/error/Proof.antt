@@ -1,5 +1,4 @@
 use Rattle.host.specs.Read.{error-of}
-
 use borrow.Author.Needs.{needs}
 use Rattle.host.proofs.read.error.Statement.{statement}
 use Rattle.host.proofs.read.error.Tie as tie

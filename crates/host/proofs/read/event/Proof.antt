@@ -1,5 +1,4 @@
 use Rattle.host.specs.Read.{event-of}
-
 use borrow.Author.Needs.{needs}
 use Rattle.host.proofs.read.event.Statement.{statement}
 use Rattle.host.proofs.read.event.Tie as tie

@@ -1,6 +1,5 @@
 use Rattle.host.specs.Read.{kept-of}
 use Rattle.laws.specs.Bool.{if_then_else_}
-
 use borrow.Author.Tests.{eq-eqb, ne-eqb}
 use borrow.Author.Needs.{needs}
 use Rattle.host.proofs.read.kept.Statement.{statement}

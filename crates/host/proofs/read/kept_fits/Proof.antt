@@ -1,5 +1,4 @@
 use Rattle.host.specs.Read.{kept-fits}
-
 use borrow.Author.Needs.{needs}
 use Rattle.host.proofs.read.kept_fits.Statement.{statement}
 use Rattle.host.proofs.read.kept_fits.Tie as tie

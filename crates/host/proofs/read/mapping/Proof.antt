@@ -1,5 +1,4 @@
 use Rattle.host.specs.Read.{mapping-of}
-
 use borrow.Author.Needs.{needs}
 use Rattle.host.proofs.read.mapping.Statement.{statement}
 use Rattle.host.proofs.read.mapping.Tie as tie

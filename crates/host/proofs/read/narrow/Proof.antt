@@ -1,4 +1,3 @@
-
 use Rattle.host.specs.Read.{narrow}
 use borrow.Author.Needs.{needs}
 use Rattle.host.proofs.read.narrow.Statement.{statement}

@@ -1,5 +1,4 @@
 use Rattle.host.specs.Read.{output-fits}
-
 use borrow.Author.Needs.{needs}
 use Rattle.host.proofs.read.output_fits.Statement.{statement}
 use Rattle.host.proofs.read.output_fits.Tie as tie

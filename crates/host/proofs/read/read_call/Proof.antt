@@ -1,5 +1,4 @@
 use Rattle.host.specs.Read.{call-of}
-
 use borrow.Author.Needs.{needs}
 use Rattle.host.proofs.read.read_call.Statement.{statement}
 use Rattle.host.proofs.read.read_call.Tie as tie

@@ -1,5 +1,4 @@
 use Rattle.host.specs.Read.{result-of}
-
 use borrow.Author.Needs.{needs}
 use Rattle.host.proofs.read.result.Statement.{statement}
 use Rattle.host.proofs.read.result.Tie as tie

@@ -1,5 +1,4 @@
 use Rattle.host.specs.Read.{result-fits}
-
 use borrow.Author.Needs.{needs}
 use Rattle.host.proofs.read.result_fits.Statement.{statement}
 use Rattle.host.proofs.read.result_fits.Tie as tie

@@ -1,5 +1,4 @@
 use Rattle.host.specs.Read.{signal-of}
-
 use borrow.Author.Needs.{needs}
 use Rattle.host.proofs.read.signal.Statement.{statement}
 use Rattle.host.proofs.read.signal.Tie as tie

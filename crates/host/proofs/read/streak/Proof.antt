@@ -1,5 +1,4 @@
 use Rattle.host.specs.Read.{streak-of}
-
 use borrow.Author.Needs.{needs}
 use Rattle.host.proofs.read.streak.Statement.{statement}
 use Rattle.host.proofs.read.streak.Tie as tie

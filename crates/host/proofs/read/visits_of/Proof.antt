@@ -1,5 +1,4 @@
 use Rattle.host.specs.Read.{visits-of}
-
 use borrow.Author.Needs.{needs}
 use Rattle.host.proofs.read.visits_of.Statement.{statement}
 use Rattle.host.proofs.read.visits_of.Tie as tie
