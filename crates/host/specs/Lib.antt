@@ -2,3 +2,4 @@ pub mod Read
 pub mod ReadLaws
 pub mod Write
 pub mod WriteLaws
+pub mod Round
