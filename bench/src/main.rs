@@ -1,291 +1,188 @@
-//! The verdict on a sheet: the proved library against plain Rust, in one run.
+//! The library against plain Rust and the original, in one run (docs/BENCHMARKS.md).
 //!
-//! The library reads the lent numbers of docs/NUMBERS.md in place; plain Rust reads structs behind a reference, with the
-//! same rules on sorted rows. Each case is timed in turns, several rounds of each side; the least time of a side counts,
-//! and the ratio is that of the least times.
+//! The sides of a case are timed in turns, many rounds of each; the least time of a side counts, and a ratio is that
+//! of least times. Before that their answers are compared.
 
 use std::hint::black_box;
 use std::time::Instant;
 
-use calls::{numbers, Action, Ceilings, Declared, Limit, Node, Route, Workflow};
+use calls::numbers::{self, ANSWER};
+use calls::{Call, State, Workflow, NONE};
+use generator::full::{self, CEILINGS};
+use generator::{directed, joint};
+use original::Asked;
+use plain::Decision;
 
-extern "C" {
-    /// 0, or 256 times the broken rule and its item.
-    fn sheet_verdict(
-        sheet: *const [u32; 4169],
-        nodes: u32,
-        visits: u32,
-        activations: u32,
-        attempts: u32,
-    ) -> u64;
-}
+const ROUNDS: usize = 60;
+/// A round of one side takes about so many nanoseconds.
+const ROUND: f64 = 400_000.0;
 
-const CEILINGS: Ceilings = Ceilings {
-    nodes: 64,
-    visits: 1000,
-    activations: 10000,
-    attempts: 100,
-};
-
-fn library(sheet: &[u32; 4169]) -> u64 {
-    // SAFETY: the function reads the 4169 numbers and keeps nothing.
-    unsafe {
-        sheet_verdict(
-            sheet,
-            CEILINGS.nodes,
-            CEILINGS.visits,
-            CEILINGS.activations,
-            CEILINGS.attempts,
-        )
-    }
-}
-
-fn reference(workflow: &Workflow) -> u64 {
-    plain::verdict(workflow, &CEILINGS)
-        .map_or(0, |(rule, item)| u64::from(rule) * 256 + u64::from(item))
-}
-
-/// Joint A of document 01.
-fn joint() -> Workflow {
-    let mut f = Workflow::empty();
-    f.format = 2;
-    f.max_visits_per_node = 3;
-    f.max_activations = 10;
-    nodes(&mut f, &[(1, 0), (2, 1), (3, 0), (4, 0)]);
-    f.nodes[1].signal = 5;
-    f.nodes[3].code = 77;
-    routes(&mut f, &[(0, 0, 1), (1, 1, 2), (1, 3, 3), (1, 4, 0)]);
-    limits(&mut f, &[(1, 4, 1)]);
-    actions(&mut f, &[(1, 2)]);
-    declared(&mut f, &[(0, 0)]);
-    f
-}
-
-fn nodes(f: &mut Workflow, rows: &[(u32, u32)]) {
-    f.node_count = rows.len() as u32;
-    for (slot, &(kind, has_limits)) in f.nodes.iter_mut().zip(rows) {
-        *slot = Node {
-            kind,
-            has_limits,
-            ..Node::default()
-        };
-    }
-}
-
-fn routes(f: &mut Workflow, rows: &[(u32, u32, u32)]) {
-    f.route_count = rows.len() as u32;
-    for (slot, &(node, outcome, target)) in f.routes.iter_mut().zip(rows) {
-        *slot = Route {
-            node,
-            outcome,
-            target,
-        };
-    }
-}
-
-fn limits(f: &mut Workflow, rows: &[(u32, u32, u32)]) {
-    f.limit_count = rows.len() as u32;
-    for (slot, &(node, outcome, limit)) in f.limits.iter_mut().zip(rows) {
-        *slot = Limit {
-            node,
-            outcome,
-            limit,
-        };
-    }
-}
-
-fn actions(f: &mut Workflow, rows: &[(u32, u32)]) {
-    f.action_count = rows.len() as u32;
-    for (slot, &(effect, max_attempts)) in f.actions.iter_mut().zip(rows) {
-        *slot = Action {
-            effect,
-            max_attempts,
-        };
-    }
-}
-
-fn declared(f: &mut Workflow, rows: &[(u32, u32)]) {
-    f.declared_count = rows.len() as u32;
-    for (slot, &(action, outcome)) in f.declared.iter_mut().zip(rows) {
-        *slot = Declared { action, outcome };
-    }
-}
-
-/// A sheet of `n` nodes; at 64 it has 512 routes, 256 declared outcomes and a limit on every routed outcome but exhausted.
-fn full(n: u32) -> Workflow {
-    let mut f = Workflow::empty();
-    f.format = 2;
-    f.max_visits_per_node = 1000;
-    f.max_activations = 10000;
-    let last = n - 1;
-    let mut rows = Vec::new();
-    let mut route_rows = Vec::new();
-    let mut limit_rows = Vec::new();
-    let mut action_rows = Vec::new();
-    let mut declared_rows = Vec::new();
-    for i in 0..last {
-        let activity = i % 2 == 0;
-        rows.push((if activity { 1 } else { 2 }, 1));
-        let next = i + 1;
-        if activity {
-            let action = action_rows.len() as u32;
-            action_rows.push((0, 3));
-            for outcome in [0, 4, 5, 6, 7, 8, 9, 10] {
-                declared_rows.push((action, outcome));
-            }
-            for outcome in [0, 3, 4, 5, 6, 7, 8, 9, 10] {
-                route_rows.push((i, outcome, if outcome == 4 { 0 } else { next }));
-            }
-            for outcome in [0, 4, 5, 6, 7, 8, 9, 10] {
-                limit_rows.push((i, outcome, 5));
-            }
-        } else {
-            let most = if i < 14 { 9 } else { 8 };
-            for outcome in [1].into_iter().chain(3..=most) {
-                route_rows.push((i, outcome, if outcome == 4 { 0 } else { next }));
-                if outcome != 3 {
-                    limit_rows.push((i, outcome, 5));
-                }
-            }
+/// The least time of one call of each side, in nanoseconds.
+fn least<const N: usize>(mut sides: [&mut dyn FnMut(); N]) -> [f64; N] {
+    let mut least = sides.each_mut().map(|side| time(side, 20));
+    for _ in 0..ROUNDS {
+        for (side, least) in sides.iter_mut().zip(&mut least) {
+            let calls = (ROUND / *least).ceil() as u32;
+            *least = least.min(time(side, calls));
         }
     }
-    rows.push((3, 0));
-    nodes(&mut f, &rows);
-    let mut action = 0;
-    for i in 0..last as usize {
-        if i % 2 == 0 {
-            f.nodes[i].action = action;
-            action += 1;
-        } else {
-            f.nodes[i].signal = (i % 7) as u32;
-        }
-    }
-    routes(&mut f, &route_rows);
-    limits(&mut f, &limit_rows);
-    actions(&mut f, &action_rows);
-    declared(&mut f, &declared_rows);
-    f
+    least
 }
 
-/// The full sheet with one thing changed, which the rule of that number refuses.
-fn refused() -> Vec<(u32, Workflow)> {
-    let with = |change: &dyn Fn(&mut Workflow)| {
-        let mut f = full(64);
-        change(&mut f);
-        f
-    };
-    let last_activity = 62;
-    vec![
-        (20, with(&|f| f.declared[255].outcome = 255)),
-        (1, with(&|f| f.format = 3)),
-        (
-            3,
-            with(&|f| {
-                *f = Workflow::empty();
-                f.format = 2;
-            }),
-        ),
-        (5, with(&|f| f.start = 64)),
-        (6, with(&|f| f.max_activations = 10001)),
-        (16, with(&|f| f.actions[31].effect = 2)),
-        (7, with(&|f| f.actions[31].max_attempts = 0)),
-        (
-            8,
-            with(&|f| {
-                let k = f.routes[..f.route_count as usize]
-                    .iter()
-                    .rposition(|x| x.node == last_activity)
-                    .unwrap();
-                f.routes[k].outcome = 200;
-            }),
-        ),
-        (
-            9,
-            with(&|f| {
-                let k = f.routes[..f.route_count as usize]
-                    .iter()
-                    .rposition(|x| x.node == 61)
-                    .unwrap();
-                f.routes[k].target = 64;
-            }),
-        ),
-        (
-            12,
-            with(&|f| {
-                let k = f.limit_count as usize - 1;
-                f.limits[k].limit = 1000;
-            }),
-        ),
-        (
-            14,
-            with(&|f| {
-                for x in f
-                    .routes
-                    .iter_mut()
-                    .filter(|x| x.node == 61 && x.target == 62)
-                {
-                    x.target = 63;
-                }
-            }),
-        ),
-        (
-            15,
-            with(&|f| {
-                let used = f.route_count as usize;
-                for x in &mut f.routes[..used] {
-                    if x.node == 62 {
-                        x.target = 62;
-                    } else if x.node == 61 && x.outcome == 5 {
-                        x.target = 63;
-                    }
-                }
-            }),
-        ),
-    ]
-}
-
-/// The least time of one call in nanoseconds, over several rounds of each side in turn.
-fn least(workflow: &Workflow) -> (f64, f64) {
-    let sheet = numbers::sheet(workflow);
-    assert_eq!(library(&sheet), reference(workflow), "the two sides differ");
-    let (mut ours, mut theirs) = (f64::MAX, f64::MAX);
-    for _ in 0..40 {
-        ours = ours.min(time(|| library(black_box(&sheet))));
-        theirs = theirs.min(time(|| reference(black_box(workflow))));
-    }
-    (ours, theirs)
-}
-
-fn time(f: impl Fn() -> u64) -> f64 {
-    let calls = 2000;
+fn time(side: &mut dyn FnMut(), calls: u32) -> f64 {
     let start = Instant::now();
-    let mut sum = 0u64;
     for _ in 0..calls {
-        sum = sum.wrapping_add(f());
+        side();
     }
-    black_box(sum);
     start.elapsed().as_nanos() as f64 / f64::from(calls)
 }
 
-fn show(name: &str, workflow: &Workflow) {
-    let (ours, theirs) = least(workflow);
+fn library_verdict(sheet: &kuxhoveza::Sheet) -> Option<(u32, u32)> {
+    let ceilings = kuxhoveza::Ceilings {
+        nodes: CEILINGS.nodes,
+        visits: CEILINGS.visits,
+        activations: CEILINGS.activations,
+        attempts: CEILINGS.attempts,
+    };
+    let refusal = kuxhoveza::verdict(sheet, ceilings)?;
+    Some((refusal.number, refusal.item))
+}
+
+fn show_verdict(name: &str, workflow: &Workflow) {
+    let sheet = numbers::sheet(workflow);
+    let verdict = plain::verdict(workflow, &CEILINGS);
+    assert_eq!(library_verdict(&sheet), verdict, "{name}");
+    let [library, plain] = least([
+        &mut || {
+            black_box(library_verdict(black_box(&sheet)));
+        },
+        &mut || {
+            black_box(plain::verdict(black_box(workflow), &CEILINGS));
+        },
+    ]);
     println!(
-        "| {name} | {} | {} | {ours:.0} | {theirs:.0} | {:.2} |",
+        "| {name} | {} | {} | {library:.0} | {plain:.0} | {:.2} |",
         workflow.route_count,
         workflow.limit_count,
-        ours / theirs
+        library / plain
     );
 }
 
-fn main() {
+fn verdicts() {
     println!("| Sheet | Routes | Limits | Library, ns | Plain Rust, ns | Ratio |");
     println!("|---|---|---|---|---|---|");
-    show("Joint A", &joint());
+    show_verdict("Joint A", &joint::sheet());
     for n in [8, 16, 32, 64] {
-        show(&format!("{n} nodes"), &full(n));
+        show_verdict(&format!("{n} nodes"), &full::sheet(n));
     }
-    for (rule, workflow) in refused() {
-        assert_eq!(reference(&workflow) / 256, u64::from(rule));
-        show(&format!("refused with {rule}"), &workflow);
+    for (rule, workflow) in full::refused() {
+        let verdict = plain::verdict(&workflow, &CEILINGS);
+        assert_eq!(verdict.map(|(number, _)| number), Some(rule));
+        show_verdict(&format!("refused with {rule}"), &workflow);
     }
+}
+
+/// The record that a call leaves.
+fn after(call: &Call) -> State {
+    let mut out = Decision::new();
+    out.decide(call);
+    out.state
+}
+
+fn cases() -> Vec<(String, Call)> {
+    let mut cases: Vec<(String, Call)> = joint::cases()
+        .into_iter()
+        .map(|case| (format!("Joint A, {}", case.name), case.call))
+        .collect();
+    let sheet = joint::sheet();
+    let scheduled = after(&joint::call(&sheet, None, joint::start()));
+    let stored = after(&joint::call(
+        &sheet,
+        Some(&scheduled),
+        joint::signal(5, NONE),
+    ));
+    let mut add = |name: &str, call| cases.push((name.to_string(), call));
+    add(
+        "a stored arrival taken",
+        joint::call(&sheet, Some(&stored), joint::result(0, 1, 1, 1)),
+    );
+    add("130 microsteps", directed::spin(NONE));
+    let start = |workflow: &Workflow| Call {
+        ceilings: CEILINGS,
+        ..joint::call(workflow, None, joint::start())
+    };
+    add("start on a full sheet", start(&full::sheet(64)));
+    let waiting = after(&start(&full::sheet(64)));
+    let result = Call {
+        ceilings: CEILINGS,
+        ..joint::call(&full::sheet(64), Some(&waiting), joint::result(0, 1, 1, 1))
+    };
+    add("success on a full sheet", result);
+    for (rule, workflow) in full::refused() {
+        if [5, 12, 15].contains(&rule) {
+            add(
+                &format!("a full sheet refused with {rule}"),
+                start(&workflow),
+            );
+        }
+    }
+    cases
+}
+
+fn show_call(name: &str, call: &Call) {
+    let sheet = numbers::sheet(&call.workflow);
+    let words: kuxhoveza::Call = numbers::call(call).try_into().unwrap();
+    let record: Option<kuxhoveza::Record> = call
+        .state
+        .as_ref()
+        .map(|state| numbers::record(state).try_into().unwrap());
+    let lent = record.unwrap_or([0; numbers::RECORD]);
+    let asked = Asked::of(call).expect("a sheet with its form");
+    let mut out = Decision::new();
+    let (mut theirs, mut ours) = ([0; ANSWER], [0; ANSWER]);
+
+    out.decide(call);
+    assert_eq!(original::answer(call), out.answer(), "{name}");
+    assert_eq!(boundary::transition(&sheet, &words, &lent, &mut theirs), 0);
+    assert_eq!(numbers::answer(&out.answer()).unwrap(), theirs, "{name}");
+    kuxhoveza::transition(&sheet, &words, record.as_ref(), &mut ours).unwrap();
+    assert_eq!(theirs, ours, "{name}");
+
+    let [original, structs, plain, library] = least([
+        &mut || {
+            black_box(black_box(&asked).transition().is_ok());
+        },
+        &mut || {
+            out.decide(black_box(call));
+            black_box(&out);
+        },
+        &mut || {
+            boundary::transition(black_box(&sheet), &words, &lent, black_box(&mut theirs));
+        },
+        &mut || {
+            let record = record.as_ref();
+            let said = kuxhoveza::transition(black_box(&sheet), &words, record, &mut ours);
+            black_box((said.is_ok(), &ours));
+        },
+    ]);
+    println!(
+        "| {name} | {original:.0} | {structs:.0} | {plain:.0} | {library:.0} | {:.1} | {:.2} | {:.2} |",
+        original / library,
+        library / plain,
+        library / structs
+    );
+}
+
+fn calls() {
+    println!("| Call | Original, ns | Plain, structs | Plain, boundary | Library | Original / library | Library / plain, boundary | Library / plain, structs |");
+    println!("|---|---|---|---|---|---|---|---|");
+    for (name, call) in cases() {
+        show_call(&name, &call);
+    }
+}
+
+fn main() {
+    verdicts();
+    println!();
+    calls();
 }

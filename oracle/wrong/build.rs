@@ -89,7 +89,12 @@ fn main() {
         let path = folder.join("mod.rs");
         writeln!(modules, "#[allow(unused, dead_code, clippy::all)]").unwrap();
         writeln!(modules, "#[path = {path:?}]\nmod w{i};").unwrap();
-        writeln!(list, "    reading!(w{i}, {:?}),", edit.about).unwrap();
+        let about = &edit.about;
+        writeln!(
+            list,
+            "Reading {{ about: {about:?}, answer: w{i}::answer }},"
+        )
+        .unwrap();
     }
     let source = format!(
         "{modules}\n/// All of them, in the order of `edits`.\npub fn readings() -> Vec<Reading> {{\n    vec![\n{list}    ]\n}}\n"

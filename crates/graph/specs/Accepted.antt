@@ -1,19 +1,19 @@
 -- What an accepted sheet has, and which numbers a refused one is given.
-use mathlib.Core.Path.{_≡_, refl, sym, _∙_, ap}
-use mathlib.Core.Bool.{Bool, true, false, not, false≢true}
+use mathlib.Core.Path.{_≡_, refl, sym, ap}
+use mathlib.Core.Bool.{Bool, true, false, false≢true}
 use mathlib.Core.List.{List, [], _∷_, _++_}
 use Prim.Native.Nat.{ℕ, _≤_, _<_}
 use native.Mathlib.Omega.{arith}
-use lib.Dec.{eqb, leb, ltb}
-use borrow.Author.Tests.{eq-eqb, eqb-true, eqb-false, not-true, not-false, ltb-true, leb-true, leb-false}
+use lib.Dec.{eqb, ltb}
+use borrow.Author.Tests.{eq-eqb, eqb-true, not-false, ltb-true, leb-false}
 use Rattle.laws.specs.Bool.{if_then_else_, _and_, _or_, split, both, neither}
 use Rattle.laws.specs.Rows.{span}
-use Rattle.laws.specs.First.{first, some}
-use Rattle.laws.specs.Every.{every}
+use Rattle.laws.specs.First.{some}
 use Rattle.laws.specs.In.{In, every-in, Hit, hit, miss, hits, Some, some-found, none-found}
 use Rattle.laws.specs.All.{All}
+use Rattle.workflow.specs.Code.{none, exhausted, activity}
 use Rattle.workflow.specs.View.{Workflow}
-use Rattle.workflow.specs.Lookup.{found, node-of, are, is-route, route-of, is-limit, limit-of, is-declared, declares}
+use Rattle.workflow.specs.Lookup.{node-of, are, is-route, route-of, routed, is-limit, limit-of, is-declared, declares}
 use Rattle.workflow.specs.Sound.{Sound}
 use Rattle.workflow.specs.declared.Node.{Node}
 use Rattle.workflow.specs.declared.Route.{Route}
@@ -24,10 +24,11 @@ use Rattle.workflow.specs.declared.Found.{Found}
 use Rattle.workflow.specs.declared.Found.the-variants.{At, Nothing}
 use Rattle.graph.specs.declared.Verdict.{Verdict}
 use Rattle.graph.specs.declared.Verdict.the-variants.{Fine, Broken}
-use Rattle.graph.specs.Lowest.{lowest, lowest-none}
+use Rattle.graph.specs.Lowest.{lowest-none}
 use Rattle.graph.specs.Form.{routes-at, route-fits, limit-fits, form}
-use Rattle.graph.specs.Rules.{unrouted, astray, extra, breaks-8, breaks-9, bad-limit, breaks-12, routed}
-use Rattle.graph.specs.Verdict.{rule, rule-at, is-broken, action-verdict, actions-verdict, stages, first-broken, verdict}
+use Rattle.graph.specs.SearchLaws.{parts-of}
+use Rattle.graph.specs.Rules.{unrouted, astray, breaks-8, breaks-9, breaks-12}
+use Rattle.graph.specs.Verdict.{rule, rule-at, action-verdict, actions-verdict, stages, first-broken, verdict}
 
 never : {A : Type 0} {k i : ℕ} → Broken k i ≡ Fine → A
 never e = let z : _≡_ {A = ℕ} 0 1 = cc in absurd (omega arith)
@@ -94,26 +95,13 @@ rules f c e =
     }
 
 module _ (f : Workflow) (r : Rules f) where
-  -- the parts of the form
-  few : f .node-count ≤ 64
-  unfolding form
-  few = leb-true _ _ (both _ _ (both _ _ (r .formed) .0) .0)
-
-  routes-fit : every (route-fits f) (f .routes) ≡ true
-  unfolding form
-  routes-fit = both _ _ (both _ _ (both _ _ (both _ _ (both _ _ (r .formed) .1) .1) .1) .1) .0
-
-  limits-fit : every (limit-fits f) (f .limits) ≡ true
-  unfolding form
-  limits-fit = both _ _ (both _ _ (both _ _ (both _ _ (both _ _ (both _ _ (both _ _ (r .formed) .1) .1) .1) .1) .1) .1) .0
-
   -- a route of an activity or of an await-signal node is not astray
   stays : (n : ℕ) → routes-at f n ≡ true → some (astray f n) (f .routes) ≡ false
   unfolding breaks-8 breaks-9
   stays n h =
       let a = both _ _ h in
       let b = ltb-true _ _ (a .0) in
-      split (eqb (node-of f n .kind) 1)
+      split (eqb (node-of f n .kind) activity)
       (λ e. neither _ _ (neither _ _ (neither _ _ (implied _ _ (r .rule-8 n b) e) .1) .1) .1)
       (λ e. neither _ _ (neither _ _ (implied _ _ (r .rule-9 n b) (other _ _ (a .1) e)) .1) .1)
 
@@ -121,7 +109,7 @@ module _ (f : Workflow) (r : Rules f) where
   pub inside : (x : Route) → In x (f .routes) → (x .node < f .node-count) × (x .target < f .node-count)
   unfolding route-fits astray
   inside x i =
-      let h = both _ _ (every-in (route-fits f) routes-fit i) .0 in (
+      let h = both _ _ (every-in (route-fits f) (parts-of f (r .formed) .routes-fit) i) .0 in (
         ltb-true _ _ (both _ _ h .0),
         leb-false _ _ (implied _ _ (none-found (astray f (x .node)) (f .routes) (stays (x .node) h) x i) (eq-eqb (x .node) (x .node) refl)),
       )
@@ -132,12 +120,12 @@ module _ (f : Workflow) (r : Rules f) where
       omega (arith, inside x i .1)
   target-there n o t (miss g) e = let z : _≡_ {A = ℕ} 0 1 = cc in absurd (omega arith)
 
-  exhausted-routed : (n o k : ℕ) {w : Found} → Hit (is-limit n o) (λ _ x. At (x .limit)) Nothing (f .limits) w → w ≡ At k → routed f n 3 ≡ true
+  exhausted-routed : (n o k : ℕ) {w : Found} → Hit (is-limit n o) (λ _ x. At (x .limit)) Nothing (f .limits) w → w ≡ At k → routed f n exhausted ≡ true
   unfolding are limit-fits breaks-12
   exhausted-routed n o k (hit j x i p) e =
       let q = both _ _ p in
       let m : x .node ≡ n = eqb-true _ _ (q .0) in
-      let h = both _ _ (every-in (limit-fits f) limits-fit i) in
+      let h = both _ _ (every-in (limit-fits f) (parts-of f (r .formed) .limits-fit) i) in
       let c : x .node < f .node-count = ltb-true _ _ (both _ _ (h .0) .0) in
       let b : n < f .node-count = omega arith in
       let a : eqb (node-of f (x .node) .«has_limits») 1 ≡ true = both _ _ (h .1) .0 in
@@ -146,7 +134,7 @@ module _ (f : Workflow) (r : Rules f) where
       not-false _ (neither _ _ (neither _ _ (neither _ _ u .1) .1) .1)
   exhausted-routed n o k (miss g) e = let z : _≡_ {A = ℕ} 0 1 = cc in absurd (omega arith)
 
-  declared-there : (n o : ℕ) → n < f .node-count → node-of f n .kind ≡ 1 → declares f (node-of f n .action) o ≡ true → routed f n o ≡ true
+  declared-there : (n o : ℕ) → n < f .node-count → node-of f n .kind ≡ activity → declares f (node-of f n .action) o ≡ true → routed f n o ≡ true
   unfolding are declares breaks-8 unrouted
   declared-there n o b k d =
       let y = some-found (is-declared (node-of f n .action) o) (f .declared) d in
@@ -160,7 +148,7 @@ module _ (f : Workflow) (r : Rules f) where
   unfolding route-of limit-of
   sound =
       record {
-        few-nodes = few;
+        few-nodes = parts-of f (r .formed) .few-nodes;
         start = ltb-true _ _ (r .rule-5);
         targets = λ n o t e. target-there n o t (hits _ _ _ 0 (f .routes)) e;
         exhausts = λ n o k e. exhausted-routed n o k (hits _ _ _ 0 (f .limits)) e;
@@ -180,7 +168,7 @@ low-broken n i a b = record { low = λ k j e. let z : n ≡ k = cc in (omega ari
 low-rule : (n : ℕ) (b : Bool) → 0 < n → n ≤ 20 → Low (rule n b)
 unfolding if_then_else_
 low-rule n true a b = low-fine
-low-rule n false a b = low-broken n 255 a b
+low-rule n false a b = low-broken n none a b
 
 low-rule-at : (n : ℕ) (x : Found) → 0 < n → n ≤ 20 → Low (rule-at n x)
 unfolding rule-at

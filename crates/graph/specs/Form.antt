@@ -1,10 +1,11 @@
 -- The form of a sheet (refusal 20).
-use mathlib.Core.Bool.{Bool, true, false, not}
+use mathlib.Core.Bool.{Bool, true, false}
 use mathlib.Core.List.{List, [], _∷_}
 use Prim.Native.Nat.{ℕ}
 use lib.Dec.{ltb, leb, eqb}
 use Rattle.laws.specs.Bool.{if_then_else_, _and_, _or_}
 use Rattle.laws.specs.Every.{every}
+use Rattle.workflow.specs.Code.{none, node-room, route-room, limit-room, action-room, declared-room, activity, await-signal, complete, fail, reconcilable}
 use Rattle.workflow.specs.View.{Workflow}
 use Rattle.workflow.specs.Lookup.{node-of}
 use Rattle.workflow.specs.declared.Node.{Node}
@@ -13,9 +14,11 @@ use Rattle.workflow.specs.declared.Limit.{Limit}
 use Rattle.workflow.specs.declared.Action.{Action}
 use Rattle.workflow.specs.declared.Declared.{Declared}
 
--- At most 64 nodes and actions, and the rows that there is room for.
+-- There is room for the rows.
 abbrev pub counts-fit : Workflow → Bool
-counts-fit f = leb (f .node-count) 64 and leb (f .route-count) 512 and leb (f .limit-count) 512 and leb (f .action-count) 64 and leb (f .declared-count) 256
+counts-fit f =
+    leb (f .node-count) node-room and leb (f .route-count) route-room and leb (f .limit-count) limit-room
+    and leb (f .action-count) action-room and leb (f .declared-count) declared-room
 
 -- A mark is 0 or 1.
 abbrev pub is-mark : ℕ → Bool
@@ -24,23 +27,23 @@ is-mark x = ltb x 2
 -- A known kind, and zero in the fields that it does not use; the mark "has loopLimits" on no end node; numbers that their fields can hold.
 unfoldable pub node-fits : Node → Bool
 node-fits x =
-    if eqb (x .kind) 1 then is-mark (x .«has_params») and eqb (x .signal) 0 and eqb (x .code) 0 and eqb (x .detail) 0 and is-mark (x .«has_limits») else
-    if eqb (x .kind) 2 then eqb (x .action) 0 and eqb (x .«has_params») 0 and ltb (x .signal) 256 and eqb (x .code) 0 and eqb (x .detail) 0 and is-mark (x .«has_limits») else
-    if eqb (x .kind) 3 then eqb (x .action) 0 and eqb (x .«has_params») 0 and eqb (x .signal) 0 and eqb (x .code) 0 and eqb (x .detail) 0 and eqb (x .«has_limits») 0 else
-    if eqb (x .kind) 4 then eqb (x .action) 0 and eqb (x .«has_params») 0 and eqb (x .signal) 0 and ltb (x .code) 65536 and eqb (x .«has_limits») 0 else
+    if eqb (x .kind) activity then is-mark (x .«has_params») and eqb (x .signal) 0 and eqb (x .code) 0 and eqb (x .detail) 0 and is-mark (x .«has_limits») else
+    if eqb (x .kind) await-signal then eqb (x .action) 0 and eqb (x .«has_params») 0 and ltb (x .signal) 256 and eqb (x .code) 0 and eqb (x .detail) 0 and is-mark (x .«has_limits») else
+    if eqb (x .kind) complete then eqb (x .action) 0 and eqb (x .«has_params») 0 and eqb (x .signal) 0 and eqb (x .code) 0 and eqb (x .detail) 0 and eqb (x .«has_limits») 0 else
+    if eqb (x .kind) fail then eqb (x .action) 0 and eqb (x .«has_params») 0 and eqb (x .signal) 0 and ltb (x .code) 65536 and eqb (x .«has_limits») 0 else
     false
 
 -- A known effect.
 abbrev pub action-fits : Action → Bool
-action-fits x = ltb (x .effect) 3
+action-fits x = leb (x .effect) reconcilable
 
--- An outcome that is there: 255 stands for an absent one.
+-- An outcome that is there.
 abbrev pub is-outcome : ℕ → Bool
-is-outcome o = ltb o 255
+is-outcome o = ltb o none
 
 -- An activity or await-signal node of the sheet.
 abbrev pub routes-at : Workflow → (node : ℕ) → Bool
-routes-at f n = ltb n (f .node-count) and (eqb (node-of f n .kind) 1 or eqb (node-of f n .kind) 2)
+routes-at f n = ltb n (f .node-count) and (eqb (node-of f n .kind) activity or eqb (node-of f n .kind) await-signal)
 
 unfoldable pub route-fits : Workflow → Route → Bool
 route-fits f x = routes-at f (x .node) and is-outcome (x .outcome)

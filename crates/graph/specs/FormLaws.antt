@@ -8,10 +8,11 @@ use lib.ListN.{getD}
 use lib.Dec.{ltb, eqb}
 use lib.Bits.{bitOr, or-add-and, and-le-l, and-le-r, or-zero-l}
 use borrow.Author.Tests.{eqb-true, eqb-false, not-true, not-false}
-use Rattle.laws.specs.Bool.{if_then_else_, _and_}
+use Rattle.laws.specs.Bool.{if_then_else_, _and_, and-true, strict-and, and-left}
 use Rattle.laws.specs.Rows.{span, span-more, span-none}
 use Rattle.laws.specs.First.{Seek}
-use Rattle.laws.specs.Every.{every, every-first}
+use Rattle.laws.specs.Every.{every, every-then}
+use Rattle.workflow.specs.Code.{node-room, route-room, limit-room, action-room, declared-room, activity, await-signal, complete, fail}
 use Rattle.workflow.specs.View.{Workflow, column-blank, blank}
 use Rattle.workflow.specs.declared.Node.{Node}
 use Rattle.graph.specs.Form.{counts-fit, node-fits, action-fits, route-fits, limit-fits, declared-fits, chained-from, chained, route-before, limit-before, declared-before, form}
@@ -35,95 +36,50 @@ declared-formed f = chained declared-before (f .declared) and every (declared-fi
 -- The unused slots of each sort.
 unfoldable pub nodes-blank : List ℕ → (count : ℕ) → Bool
 nodes-blank w k =
-    column-blank w 9 64 k and column-blank w 73 64 k and column-blank w 137 64 k and column-blank w 201 64 k
-    and column-blank w 265 64 k and column-blank w 329 64 k and column-blank w 393 64 k
+    column-blank w 9 node-room k and column-blank w 73 node-room k and column-blank w 137 node-room k and column-blank w 201 node-room k
+    and column-blank w 265 node-room k and column-blank w 329 node-room k and column-blank w 393 node-room k
 
 unfoldable pub routes-blank : List ℕ → (count : ℕ) → Bool
-routes-blank w k = column-blank w 457 512 k and column-blank w 969 512 k and column-blank w 1481 512 k
+routes-blank w k = column-blank w 457 route-room k and column-blank w 969 route-room k and column-blank w 1481 route-room k
 
 unfoldable pub limits-blank : List ℕ → (count : ℕ) → Bool
-limits-blank w k = column-blank w 1993 512 k and column-blank w 2505 512 k and column-blank w 3017 512 k
+limits-blank w k = column-blank w 1993 limit-room k and column-blank w 2505 limit-room k and column-blank w 3017 limit-room k
 
 unfoldable pub actions-blank : List ℕ → (count : ℕ) → Bool
-actions-blank w k = column-blank w 3529 64 k and column-blank w 3593 64 k
+actions-blank w k = column-blank w 3529 action-room k and column-blank w 3593 action-room k
 
 unfoldable pub declared-blank : List ℕ → (count : ℕ) → Bool
-declared-blank w k = column-blank w 3657 256 k and column-blank w 3913 256 k
-
-and-assoc : (a b c : Bool) → ((a and b) and c) ≡ (a and (b and c))
-unfolding _and_
-and-assoc true b c = refl
-and-assoc false b c = refl
+declared-blank w k = column-blank w 3657 declared-room k and column-blank w 3913 declared-room k
 
 pub blank-parts : (w : List ℕ) → blank w ≡ (nodes-blank w (getD w 4 0) and routes-blank w (getD w 5 0) and limits-blank w (getD w 6 0) and actions-blank w (getD w 7 0) and declared-blank w (getD w 8 0))
 unfolding blank nodes-blank routes-blank limits-blank actions-blank declared-blank
-blank-parts w = simp and-assoc
+blank-parts w = simp (← and-left)
 
 pub form-parts : (f : Workflow) → form f ≡ (counts-fit f and nodes-formed f and actions-formed f and routes-formed f and limits-formed f and declared-formed f and f .blank)
 unfolding form nodes-formed actions-formed routes-formed limits-formed declared-formed
-form-parts f = simp and-assoc
-
--- THE TESTS. The code's `&` groups from the left.
-pub and-2 : (a b : Bool) → (a && b) ≡ (a and b)
-unfolding _and_
-and-2 true b = refl
-and-2 false b = refl
-
-pub and-3 : (a b c : Bool) → (a && b && c) ≡ (a and b and c)
-unfolding _and_
-and-3 true b c = and-2 b c
-and-3 false b c = refl
-
-and-4 : (a b c d : Bool) → (a && b && c && d) ≡ (a and b and c and d)
-unfolding _and_
-and-4 true b c d = and-3 b c d
-and-4 false b c d = refl
-
-pub and-5 : (a b c d e : Bool) → (a && b && c && d && e) ≡ (a and b and c and d and e)
-unfolding _and_
-and-5 true b c d e = and-4 b c d e
-and-5 false b c d e = refl
-
-and-6 : (a b c d e f : Bool) → (a && b && c && d && e && f) ≡ (a and b and c and d and e and f)
-unfolding _and_
-and-6 true b c d e f = and-5 b c d e f
-and-6 false b c d e f = refl
-
-pub and-7 : (a b c d e f g : Bool) → (a && b && c && d && e && f && g) ≡ (a and b and c and d and e and f and g)
-unfolding _and_
-and-7 true b c d e f g = and-6 b c d e f g
-and-7 false b c d e f g = refl
-
--- A test b of a part a: it passes and the rest x is left, or it ends there.
-pub passed : {a b : Bool} → b ≡ a → not b ≡ false → (x : Bool) → (a and x) ≡ x
-unfolding _and_
-passed {a} {b} e h x = let t : a ≡ true = sym e ∙ not-false b h in rw t
-
-pub stopped : {a b : Bool} → b ≡ a → not b ≡ true → (x : Bool) → false ≡ (a and x)
-unfolding _and_
-stopped {a} {b} e h x = let t : a ≡ false = sym e ∙ not-true b h in rw t
+form-parts f = simp (← and-left)
 
 -- A node of each kind.
 module _ (x : Node) where
-  pub activity-fits : x .kind ≡ 1 → (ltb (x .«has_params») 2 && eqb (x .signal) 0 && eqb (x .code) 0 && eqb (x .detail) 0 && ltb (x .«has_limits») 2) ≡ node-fits x
+  pub activity-fits : x .kind ≡ activity → (ltb (x .«has_params») 2 && eqb (x .signal) 0 && eqb (x .code) 0 && eqb (x .detail) 0 && ltb (x .«has_limits») 2) ≡ node-fits x
   unfolding node-fits if_then_else_
-  activity-fits h = rw h (and-5 _ _ _ _ _)
+  activity-fits h = rw h (simp and-left (simp strict-and))
 
-  pub await-fits : x .kind ≡ 2 → (eqb (x .action) 0 && eqb (x .«has_params») 0 && ltb (x .signal) 256 && eqb (x .code) 0 && eqb (x .detail) 0 && ltb (x .«has_limits») 2) ≡ node-fits x
+  pub await-fits : x .kind ≡ await-signal → (eqb (x .action) 0 && eqb (x .«has_params») 0 && ltb (x .signal) 256 && eqb (x .code) 0 && eqb (x .detail) 0 && ltb (x .«has_limits») 2) ≡ node-fits x
   unfolding node-fits if_then_else_
-  await-fits h = rw h (and-6 _ _ _ _ _ _)
+  await-fits h = rw h (simp and-left (simp strict-and))
 
-  pub complete-fits : x .kind ≡ 3 → (eqb (x .action) 0 && eqb (x .«has_params») 0 && eqb (x .signal) 0 && eqb (x .code) 0 && eqb (x .detail) 0 && eqb (x .«has_limits») 0) ≡ node-fits x
+  pub complete-fits : x .kind ≡ complete → (eqb (x .action) 0 && eqb (x .«has_params») 0 && eqb (x .signal) 0 && eqb (x .code) 0 && eqb (x .detail) 0 && eqb (x .«has_limits») 0) ≡ node-fits x
   unfolding node-fits if_then_else_
-  complete-fits h = rw h (and-6 _ _ _ _ _ _)
+  complete-fits h = rw h (simp and-left (simp strict-and))
 
-  pub fail-fits : x .kind ≡ 4 → (eqb (x .action) 0 && eqb (x .«has_params») 0 && eqb (x .signal) 0 && ltb (x .code) 65536 && eqb (x .«has_limits») 0) ≡ node-fits x
+  pub fail-fits : x .kind ≡ fail → (eqb (x .action) 0 && eqb (x .«has_params») 0 && eqb (x .signal) 0 && ltb (x .code) 65536 && eqb (x .«has_limits») 0) ≡ node-fits x
   unfolding node-fits if_then_else_
-  fail-fits h = rw h (and-5 _ _ _ _ _)
+  fail-fits h = rw h (simp and-left (simp strict-and))
 
 -- THE LOOPS. All rows fit: a search for one that does not.
 pub every-start : {A : Type 0} (p : A → Bool) {f : ℕ → A} {k : ℕ} → Seek (λ x. not (p x)) (λ _ _. false) true f k 0 (every p (span f 0 k))
-every-start {A} p {f} {k} = record { left = sym (every-first p 0 (span f 0 k)) }
+every-start {A} p {f} {k} = record { left = every-then p true 0 (span f 0 k) ∙ sym (and-true (every p (span f 0 k))) }
 
 -- Rows that stand in order and fit, from 0 to k: at i, with x the row before, the whole answer w is what is left to test.
 pub record Chain {A : Type 0} (r : A → A → Bool) (p : A → Bool) (f : ℕ → A) (k i : ℕ) (x : A) (w : Bool) : Type 0 where
@@ -180,11 +136,11 @@ module _ {A : Type 0} {r : A → A → Bool} {p : A → Bool} {f : ℕ → A} {k
 
   pub chain-next : {b c : Bool} {y : A} → i < k → y ≡ f i → b ≡ p y → c ≡ r x y → not (b && c) ≡ false → Chain r p f k (i + 1) y w
   unfolding _and_
-  chain-next {b} {c} h s q t e = record { left = rw (sym (and-2 b c) ∙ not-false (b && c) e) at (step h s q t) }
+  chain-next {b} {c} h s q t e = record { left = rw (strict-and b c ∙ not-false (b && c) e) at (step h s q t) }
 
   pub chain-stop : {b c : Bool} {y : A} → i < k → y ≡ f i → b ≡ p y → c ≡ r x y → not (b && c) ≡ true → false ≡ w
   unfolding _and_
-  chain-stop {b} {c} h s q t e = rw (sym (and-2 b c) ∙ not-true (b && c) e) at (step h s q t)
+  chain-stop {b} {c} h s q t e = rw (strict-and b c ∙ not-true (b && c) e) at (step h s q t)
 
 -- Zeros: the digits of all numbers of a range together.
 or-none : (a b : ℕ) → eqb (bitOr a b) 0 ≡ (eqb a 0 and eqb b 0)
@@ -198,11 +154,6 @@ or-none a b = go (eqb (bitOr a b) 0) (eqb a 0) (eqb b 0) refl refl refl
     go false true true e p q = absurd (eqb-false (bitOr a b) 0 e (ap₂ bitOr (eqb-true a 0 p) (eqb-true b 0 q) ∙ or-zero-l 0))
     go false true false e p q = refl
     go false false z e p q = refl
-
-and-true : (a : Bool) → a and true ≡ a
-unfolding _and_
-and-true true = refl
-and-true false = refl
 
 abbrev zeros : (ℕ → ℕ) → (i k : ℕ) → Bool
 zeros f i k = every (λ x. eqb x 0) (span f i k)
@@ -218,8 +169,8 @@ dirt-start = record { left = refl }
 module _ {f : ℕ → ℕ} {k i d : ℕ} {w : Bool} (inv : Dirt f k i d w) where
   pub dirt-more : i < k → Dirt f k (i + 1) (bitOr d (f i)) w
   unfolding every
-  dirt-more h = record { left = rw (or-none d (f i), and-assoc) (rw (span-more f i k h) at (inv .left)) }
+  dirt-more h = record { left = rw (or-none d (f i), ← and-left) (rw (span-more f i k h) at (inv .left)) }
 
   pub dirt-end : k ≤ i → eqb d 0 ≡ w
   unfolding every
-  dirt-end h = sym (and-true (eqb d 0)) ∙ (rw (span-none f i k h) at (inv .left))
+  dirt-end h = and-true (eqb d 0) ∙ (rw (span-none f i k h) at (inv .left))

@@ -1,17 +1,18 @@
 -- What the sets of 14 and 15 mean: a node is in the set exactly if a chain of routes leads there from start, or from there to an end.
-use mathlib.Core.Path.{_≡_, refl, sym, ap, _∙_}
+use mathlib.Core.Path.{_≡_, refl, sym, _∙_}
 use mathlib.Core.Bool.{Bool, true, false, false≢true}
 use mathlib.Core.Logic.{_⊎_, inl, inr, ⊎-elim}
 use mathlib.Core.List.{List, [], _∷_}
-use Prim.Native.Nat.{ℕ, zero, suc, _+_, _^_, _≤_, _<_}
+use Prim.Native.Nat.{ℕ, zero, suc, _^_, _≤_, _<_}
 use native.Mathlib.Omega.{arith}
 use lib.Dec.{leb, eqb}
 use lib.Pow.{pow-lt, pow-pos}
-use lib.Bits.{bitOr, or-lt}
-use borrow.Author.Tests.{eq-eqb, eqb-true, eqb-false, leb-true, le-leb}
+use lib.Bits.{or-lt}
+use borrow.Author.Tests.{eq-eqb, eqb-true, leb-true, le-leb}
 use Rattle.laws.specs.Bool.{if_then_else_, _or_, split}
-use Rattle.laws.specs.Rows.{span, span-more, span-none}
-use Rattle.laws.specs.In.{In, head, tail, nowhere, in-cons}
+use Rattle.laws.specs.Rows.{span}
+use Rattle.laws.specs.In.{In, head, tail, in-span, span-in}
+use Rattle.workflow.specs.Code.{complete}
 use Rattle.workflow.specs.View.{Workflow}
 use Rattle.workflow.specs.Lookup.{node-of}
 use Rattle.workflow.specs.declared.Node.{Node}
@@ -151,11 +152,11 @@ module _ (f : Workflow) (r : Rules f) (start : f .start < f .node-count) where
 -- The set of ends has a node exactly if it is a complete or fail node.
 pub record End (f : Workflow) (n : ℕ) : Type 0 where
   pub there : n < f .node-count
-  pub is-end : 3 ≤ node-of f n .kind
+  pub is-end : complete ≤ node-of f n .kind
 
-with-end : (f : Workflow) (s i : ℕ) → Under s (if leb 3 (node-of f i .kind) then mark s i else s)
+with-end : (f : Workflow) (s i : ℕ) → Under s (if leb complete (node-of f i .kind) then mark s i else s)
 unfolding if_then_else_
-with-end f s i n h = split (leb 3 (node-of f i .kind)) (λ e. rw (e, has-mark s i n) (or-left _ _ h)) (λ e. rw e h)
+with-end f s i n h = split (leb complete (node-of f i .kind)) (λ e. rw (e, has-mark s i n) (or-left _ _ h)) (λ e. rw e h)
 
 module _ (f : Workflow) where
   ends-keep : (ns : List ℕ) (s : ℕ) → Under s (ends-of f ns s)
@@ -163,40 +164,29 @@ module _ (f : Workflow) where
   ends-keep [] s n h = h
   ends-keep (i ∷ ns) s n h = ends-keep ns _ n (with-end f s i n h)
 
-  ends-add : (ns : List ℕ) (s : ℕ) {n : ℕ} → In n ns → 3 ≤ node-of f n .kind → has (ends-of f ns s) n ≡ true
+  ends-add : (ns : List ℕ) (s : ℕ) {n : ℕ} → In n ns → complete ≤ node-of f n .kind → has (ends-of f ns s) n ≡ true
   unfolding ends-of if_then_else_
   ends-add (n ∷ ns) s head h =
-      ends-keep ns _ n (rw (le-leb 3 (node-of f n .kind) h, has-mark s n n) (or-right _ _ (eq-eqb n n refl)))
+      ends-keep ns _ n (rw (le-leb complete (node-of f n .kind) h, has-mark s n n) (or-right _ _ (eq-eqb n n refl)))
   ends-add (i ∷ ns) s (tail m) h = ends-add ns _ m h
 
-  ends-only : (ns : List ℕ) (s n : ℕ) → has (ends-of f ns s) n ≡ true → (has s n ≡ true) ⊎ ((In n ns) × (3 ≤ node-of f n .kind))
+  ends-only : (ns : List ℕ) (s n : ℕ) → has (ends-of f ns s) n ≡ true → (has s n ≡ true) ⊎ ((In n ns) × (complete ≤ node-of f n .kind))
   unfolding ends-of if_then_else_
   ends-only [] s n h = inl h
-  ends-only (i ∷ ns) s n h = ⊎-elim (λ p. one p) (λ (p : (In n ns) × (3 ≤ node-of f n .kind)). inr (tail (p .0), p .1)) (ends-only ns _ n h)
+  ends-only (i ∷ ns) s n h = ⊎-elim (λ p. one p) (λ (p : (In n ns) × (complete ≤ node-of f n .kind)). inr (tail (p .0), p .1)) (ends-only ns _ n h)
     where
-      one : has (if leb 3 (node-of f i .kind) then mark s i else s) n ≡ true → (has s n ≡ true) ⊎ ((In n (i ∷ ns)) × (3 ≤ node-of f n .kind))
+      one : has (if leb complete (node-of f i .kind) then mark s i else s) n ≡ true → (has s n ≡ true) ⊎ ((In n (i ∷ ns)) × (complete ≤ node-of f n .kind))
       one p =
-          split (leb 3 (node-of f i .kind))
+          split (leb complete (node-of f i .kind))
           (λ e. ⊎-elim (λ q. inl q) (λ (q : eqb n i ≡ true). let z : n ≡ i = eqb-true n i q in inr (rw z head, rw z (leb-true _ _ e)))
           (or-cases (has s n) (eqb n i) (sym (has-mark s i n) ∙ (rw e at p))))
           (λ e. inl (rw e at p))
-
-pub in-span : {A : Type 0} (f : ℕ → A) (m i k n : ℕ) → k ≡ i + m → i ≤ n → n < k → In (f n) (span f i k)
-in-span f zero i k n e a b = absurd (omega arith)
-in-span f (suc m) i k n e a b =
-    rw (span-more f i k (omega arith))
-    (split (eqb n i) (λ q. rw (eqb-true n i q) head) (λ q. let d : n ≡ i → ⊥ = eqb-false n i q in tail (in-span f m (i + 1) k n (omega arith) (omega arith) b)))
-
-span-in : (m i k n : ℕ) → k ≡ i + m → In n (span (λ x. x) i k) → n < k
-span-in zero i k n e p = absurd (nowhere (rw (span-none (λ x. x) i k (omega arith)) at p))
-span-in (suc m) i k n e p =
-    ⊎-elim (λ (q : n ≡ i). omega arith) (λ q. span-in m (i + 1) k n (omega arith) q) (in-cons (rw (span-more (λ x. x) i k (omega arith)) at p))
 
 ends-low : (f : Workflow) (k : ℕ) (ns : List ℕ) (s : ℕ) → ((n : ℕ) → In n ns → n < k) → s < 2 ^ k → ends-of f ns s < 2 ^ k
 unfolding ends-of if_then_else_
 ends-low f k [] s h l = l
 ends-low f k (i ∷ ns) s h l =
-    ends-low f k ns _ (λ n p. h n (tail p)) (split (leb 3 (node-of f i .kind)) (λ e. rw e (or-lt k s (2 ^ i) l (pow-lt (h i head)))) (λ e. rw e l))
+    ends-low f k ns _ (λ n p. h n (tail p)) (split (leb complete (node-of f i .kind)) (λ e. rw e (or-lt k s (2 ^ i) l (pow-lt (h i head)))) (λ e. rw e l))
 
 -- 15: the set has a node exactly if a chain of routes leads from there to an end.
 pub record Ending (f : Workflow) (n : ℕ) : Type 0 where
@@ -216,7 +206,7 @@ module _ (f : Workflow) (r : Rules f) where
   is-an-end : (n : ℕ) → has ends n ≡ true → End f n
   is-an-end n h =
       ⊎-elim (λ p. absurd (false≢true (sym (has-none n) ∙ p)))
-      (λ (p : (In n (span (λ x. x) 0 (f .node-count))) × (3 ≤ node-of f n .kind)).
+      (λ (p : (In n (span (λ x. x) 0 (f .node-count))) × (complete ≤ node-of f n .kind)).
       record { there = span-in (f .node-count) 0 (f .node-count) n (omega arith) (p .0); is-end = p .1 })
       (ends-only f (span (λ n. n) 0 (f .node-count)) 0 n h)
 

@@ -13,9 +13,10 @@ use lib.Pow.{pow-lt, pow-pos, pow-mono}
 use lib.Bits.{bitAnd, bitOr, and-mask, and-le-r, or-lt}
 use lib.Count.{trailingZeros, under}
 use borrow.Author.Tests.{eq-eqb, ne-eqb, eqb-true, eqb-false, not-true}
-use Rattle.laws.specs.Bool.{if_then_else_, _and_, _or_, split, both, join}
+use Rattle.laws.specs.Bool.{if_then_else_, _and_, _or_, split, both, join, or-false}
 use Rattle.laws.specs.Rows.{span, span-more, span-none}
-use Rattle.laws.specs.In.{In, head, tail}
+use Rattle.laws.specs.In.{In, head, tail, in-span}
+use Rattle.workflow.specs.Code.{route-room, complete}
 use Rattle.workflow.specs.View.{Workflow, workflow, route-at}
 use Rattle.workflow.specs.Lookup.{node-of}
 use Rattle.workflow.specs.declared.Node.{Node}
@@ -26,7 +27,7 @@ use Rattle.graph.specs.Sets.{has, mark, turned, closed, ends-of}
 use Rattle.graph.specs.Bits.{has-suc, has-zero, has-none, has-or, has-and, has-mark, or-cases, or-left, or-right, lt-or-ge, same-set, Under, lacking, lacking-same}
 use Rattle.graph.specs.Lowest.{lowest, Least, is-least, is-none, least}
 use Rattle.graph.specs.Accepted.{Rules, inside, sound}
-use Rattle.graph.specs.Reach.{Chain, first, next, repeated-chained, closed-whole, in-span}
+use Rattle.graph.specs.Reach.{Chain, first, next, repeated-chained, closed-whole}
 
 -- The lowest number below the count that a set lacks.
 abbrev pub missing : (count set : ℕ) → Found
@@ -34,7 +35,7 @@ missing k s = lowest k (λ n. not (has s n))
 
 -- The complete and fail nodes.
 abbrev pub add-end : (set node kind : ℕ) → ℕ
-add-end s n k = if leb 3 k then mark s n else s
+add-end s n k = if leb complete k then mark s n else s
 
 abbrev pub ends : Workflow → ℕ
 ends f = ends-of f (span (λ n. n) 0 (f .node-count)) 0
@@ -174,24 +175,19 @@ routes-within f r b x i =
     let l = sound f r .few-nodes in
     turned-within b 64 x (record { node = omega arith; target = omega arith })
 
-pub route-within : (w : List ℕ) → Rules (workflow w) → (b : Bool) (i : ℕ) → i < min 512 (getD w 5 0) → {x y : Route} → x ≡ route-at w i → y ≡ turned b x → Within 64 y
+pub route-within : (w : List ℕ) → Rules (workflow w) → (b : Bool) (i : ℕ) → i < min route-room (getD w 5 0) → {x y : Route} → x ≡ route-at w i → y ≡ turned b x → Within 64 y
 route-within w r b i h e q =
-    let k = min 512 (getD w 5 0) in
+    let k = min route-room (getD w 5 0) in
     rw (q, e) (routes-within (workflow w) r b (route-at w i) (in-span (route-at w) k 0 k i (omega arith) (omega arith) h))
 
 -- What a mask has: each route, and nothing that leads out of a set which no route leaves.
-or-none : (a : Bool) → a ≡ (a or false)
-unfolding _or_
-or-none true = refl
-or-none false = refl
-
 lead-has : (ms : List ℕ) (x : Route) → x .node < length ms → (n t : ℕ) → has (getD (lead ms x) n 0) t ≡ (has (getD ms n 0) t or (eqb n (x .node) and eqb t (x .target)))
 unfolding _and_
 lead-has ms x l n t =
     let m = getD ms (x .node) 0 in
     split (eqb n (x .node))
     (λ e. let z : n ≡ x .node = eqb-true n (x .node) e in rw (e, z, getD-set-same ms (x .node) (mark m (x .target)) 0 l) (has-mark m (x .target) t))
-    (λ e. rw (e, getD-set-other ms (x .node) n (mark m (x .target)) 0 (eqb-false n (x .node) e)) (or-none (has (getD ms n 0) t)))
+    (λ e. rw (e, getD-set-other ms (x .node) n (mark m (x .target)) 0 (eqb-false n (x .node) e)) (or-false (has (getD ms n 0) t)))
 
 abbrev Fit : (back : Bool) → List Route → (ms : List ℕ) → Type 0
 Fit b xs ms = (x : Route) → In x xs → turned b x .node < length ms

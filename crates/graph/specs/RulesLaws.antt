@@ -7,25 +7,27 @@ use native.Mathlib.Omega.{arith}
 use lib.ListN.{getD, length, set, replicate, length-set, length-replicate, getD-replicate}
 use lib.Seq.{getD-set-same, getD-set-other}
 use lib.Dec.{ltb, leb, eqb}
-use borrow.Author.Tests.{eq-eqb, eqb-true, eqb-false, ltb-true, ltb-false, leb-true, lt-ltb, le-ltb, ne-eqb}
-use Rattle.laws.specs.Bool.{if_then_else_, _and_, _or_, split, both, if-true}
+use borrow.Author.Tests.{eq-eqb, eqb-true, eqb-false, ltb-true, ltb-false, lt-ltb, le-ltb, ne-eqb}
+use Rattle.laws.specs.Bool.{if_then_else_, _and_, _or_, split, both, and-true, or-false, if-true}
 use Rattle.laws.specs.Rows.{span, span-more, span-none, at-span}
 use Rattle.laws.specs.First.{first, some, Seek, seek-start}
 use Rattle.laws.specs.Every.{every}
+use Rattle.laws.specs.In.{every-in, in-span}
+use Rattle.workflow.specs.Code.{none, node-room, route-room, limit-room, format-0-2, failed, exhausted, await-signal}
 use Rattle.workflow.specs.View.{Workflow, workflow, no-node, node-at, route-at, limit-at, declared-at}
-use Rattle.workflow.specs.Lookup.{found, node-of, policy-of, are, is-route, route-of, is-declared, declares}
+use Rattle.workflow.specs.Lookup.{found, is-0-2, node-of, policy-of, are, is-route, route-of, routed, is-declared, declares}
 use Rattle.workflow.specs.declared.Found.the-variants.{At, Nothing}
 use Rattle.graph.specs.Lowest.{lowest}
 use Rattle.graph.specs.Form.{route-fits, limit-fits, declared-fits, form}
-use Rattle.graph.specs.Rules.{is-0-2, routed, within, breaks-1, of-action, reserved, declared-twice, breaks-7, of-node, unrouted, may-route-exhausted, extra, astray, breaks-8, breaks-9, limit-of-node, one-more, bad-limit, breaks-12}
-use Rattle.graph.specs.SearchLaws.{Cut, cuts, the-cut, column, rows-below, Rising, ascending-rising, first-skip, first-none, Sorted, form-sorted, route-rows, limit-rows, declared-rows, route-row, limit-row, declared-row, routes-ascend, limits-ascend, declared-rise}
+use Rattle.graph.specs.Rules.{within, breaks-1, of-action, reserved, declared-twice, breaks-7, of-node, unrouted, may-route-exhausted, extra, astray, breaks-8, breaks-9, limit-of-node, one-more, bad-limit, breaks-12}
+use Rattle.graph.specs.SearchLaws.{Cut, cuts, the-cut, column, rows-below, Rising, ascending-rising, first-skip, first-none, form-sorted, parts-of, route-rows, limit-rows, declared-rows, route-row, limit-row, declared-row, routes-ascend, limits-ascend, declared-rise}
 
 -- WHAT THE CONTRACTS CITE.
 -- Some number from a to b passes.
 abbrev pub some-in : (a b : ℕ) → (ℕ → Bool) → Bool
 some-in a b p = some p (span (λ j. j) a b)
 
--- Marks for outcomes: none; those in a part of a column; 2, and 3 where two holds.
+-- Marks for outcomes: none; those in a part of a column; failed, and exhausted where two holds.
 abbrev pub no-marks : List Bool
 no-marks = replicate 256 false
 
@@ -37,7 +39,7 @@ unfoldable pub marked : List ℕ → (start from to : ℕ) → List Bool
 marked w c a b = mark-all no-marks (span (column w c) a b)
 
 abbrev pub reserved-marks : (two : Bool) → List Bool
-reserved-marks t = set (set no-marks 2 true) 3 t
+reserved-marks t = set (set no-marks failed true) exhausted t
 
 -- The number is not marked; some number is marked, or stands in the list before.
 abbrev pub unmarked : List ℕ → (start : ℕ) → List Bool → (row : ℕ) → Bool
@@ -63,10 +65,10 @@ unfoldable pub misroutes : Workflow → (node action : ℕ) → Bool
 misroutes f n a = some (unrouted f n a) (f .declared) or some (extra f n a) (f .routes) or some (astray f n) (f .routes)
 
 unfoldable pub routes-exhausted : Workflow → (node : ℕ) → Bool
-routes-exhausted f n = is-0-2 f and routed f n 3 and not (may-route-exhausted f n)
+routes-exhausted f n = is-0-2 f and routed f n exhausted and not (may-route-exhausted f n)
 
 unfoldable pub misses : Workflow → (node : ℕ) → Bool
-misses f n = some (bad-limit f n) (f .limits) or not (routed f n 3)
+misses f n = some (bad-limit f n) (f .limits) or not (routed f n exhausted)
 
 unfoldable pub breaks : Workflow → (rule node : ℕ) → Bool
 breaks f r n = if eqb r 8 then breaks-8 f n else if eqb r 9 then breaks-9 f n else breaks-12 f n
@@ -99,16 +101,6 @@ the-group f e g h = record { formed = f; from = rw e at g; to = rw e at h }
 not-not : (x : Bool) → not (not x) ≡ x
 not-not true = refl
 not-not false = refl
-
-and-true : (x : Bool) → x ≡ x and true
-unfolding _and_
-and-true true = refl
-and-true false = refl
-
-or-false : (x : Bool) → x ≡ x or false
-unfolding _or_
-or-false true = refl
-or-false false = refl
 
 or-true : (x : Bool) → true ≡ x or true
 unfolding _or_
@@ -230,7 +222,7 @@ unfolding marked
 marked-long w c a b = mark-all-long no-marks (span (column w c) a b) ∙ length-replicate 256 false
 
 reserved-long : (t : Bool) → length (reserved-marks t) ≡ 256
-reserved-long t = length-set (set no-marks 2 true) 3 t ∙ length-set no-marks 2 true ∙ length-replicate 256 false
+reserved-long t = length-set (set no-marks failed true) exhausted t ∙ length-set no-marks failed true ∙ length-replicate 256 false
 
 -- A loop that marks the numbers from a to b.
 pub record Marking (w : List ℕ) (c a b : ℕ) (m : List Bool) (i : ℕ) : Type 0 where
@@ -286,46 +278,10 @@ module _ {w : List ℕ} {c a b : ℕ} {whole : Bool} {m : List Bool} {i : ℕ} (
   unfolding again
   again-end h = rw (span-none (column w c) i b h) at (inv .left)
 
--- THE PARTS OF THE FORM.
-pub record Parts (f : Workflow) : Type 0 where
-  pub few-nodes : f .node-count ≤ 64
-  pub few-actions : f .action-count ≤ 64
-  pub sorted : Sorted f
-  pub routes-fit : every (route-fits f) (f .routes) ≡ true
-  pub limits-fit : every (limit-fits f) (f .limits) ≡ true
-  pub declared-fit : every (declared-fits f) (f .declared) ≡ true
-
-pub parts : (f : Workflow) → form f ≡ true → Parts f
-unfolding form
-parts f e =
-    let counts = both _ _ e .0 in
-    let routes = both _ _ (both _ _ (both _ _ (both _ _ e .1) .1) .1) .1 in
-    let limits = both _ _ (both _ _ routes .1) .1 in
-    let declared = both _ _ (both _ _ limits .1) .1 in
-    record {
-      few-nodes = leb-true _ _ (both _ _ counts .0);
-      few-actions = leb-true _ _ (both _ _ (both _ _ (both _ _ (both _ _ counts .1) .1) .1) .0);
-      sorted = form-sorted f e;
-      routes-fit = both _ _ routes .0;
-      limits-fit = both _ _ limits .0;
-      declared-fit = both _ _ declared .0;
-    }
-
-every-at : {A : Type 0} (p : A → Bool) (f : ℕ → A) (k m i : ℕ) → every p (span f i k) ≡ true → i + m < k → p (f (i + m)) ≡ true
-unfolding every
-every-at p f k zero i e h =
-    let z : i + 0 ≡ i = omega arith in
-    rw z (both _ _ (rw (span-more f i k (omega arith)) at e) .0)
-every-at p f k (suc m) i e h =
-    let z : i + suc m ≡ i + 1 + m = omega arith in
-    rw z (every-at p f k m (i + 1) (both _ _ (rw (span-more f i k (omega arith)) at e) .1) (omega arith))
-
--- an outcome of a row that fits is small
-small-at : {A : Type 0} (p : A → Bool) (o : A → ℕ) (f : ℕ → A) (k : ℕ) → ((x : A) → p x ≡ true → ltb (o x) 255 ≡ true) → every p (span f 0 k) ≡ true → (j : ℕ) → j < k → o (f j) < 256
+-- OUTCOMES of rows that fit are small.
+small-at : {A : Type 0} (p : A → Bool) (o : A → ℕ) (f : ℕ → A) (k : ℕ) → ((x : A) → p x ≡ true → ltb (o x) none ≡ true) → every p (span f 0 k) ≡ true → (j : ℕ) → j < k → o (f j) < 256
 small-at p o f k t e j h =
-    let z : 0 + j ≡ j = omega arith in
-    let q = rw z at (every-at p f k j 0 e (omega arith)) in
-    let l = ltb-true (o (f j)) 255 (t (f j) q) in
+    let l = ltb-true (o (f j)) none (t (f j) (every-in p e (in-span f k 0 k j (omega arith) (omega arith) h))) in
     omega arith
 
 module _ (w : List ℕ) (formed : form (workflow w) ≡ true) where
@@ -340,15 +296,15 @@ module _ (w : List ℕ) (formed : form (workflow w) ≡ true) where
 
   route-outcome : (j : ℕ) → j < route-rows w → column w 969 j < 256
   unfolding route-fits
-  route-outcome j h = rw (route-row w j h) at (small-at (route-fits (workflow w)) (λ x. x .outcome) (route-at w) _ (λ x t. both _ _ t .1) (parts _ formed .routes-fit) j h)
+  route-outcome j h = rw (route-row w j h) at (small-at (route-fits (workflow w)) (λ x. x .outcome) (route-at w) _ (λ x t. both _ _ t .1) (parts-of _ formed .routes-fit) j h)
 
   limit-outcome : (j : ℕ) → j < limit-rows w → column w 2505 j < 256
   unfolding limit-fits
-  limit-outcome j h = rw (limit-row w j h) at (small-at (limit-fits (workflow w)) (λ x. x .outcome) (limit-at w) _ (λ x t. both _ _ (both _ _ t .1) .1) (parts _ formed .limits-fit) j h)
+  limit-outcome j h = rw (limit-row w j h) at (small-at (limit-fits (workflow w)) (λ x. x .outcome) (limit-at w) _ (λ x t. both _ _ (both _ _ t .1) .1) (parts-of _ formed .limits-fit) j h)
 
   declared-outcome : (j : ℕ) → j < declared-rows w → column w 3913 j < 256
   unfolding declared-fits
-  declared-outcome j h = rw (declared-row w j h) at (small-at (declared-fits (workflow w)) (λ x. x .outcome) (declared-at w) _ (λ x t. both _ _ t .1) (parts _ formed .declared-fit) j h)
+  declared-outcome j h = rw (declared-row w j h) at (small-at (declared-fits (workflow w)) (λ x. x .outcome) (declared-at w) _ (λ x t. both _ _ t .1) (parts-of _ formed .declared-fit) j h)
 
 -- THE ROWS OF A KEY.
 module _ {w : List ℕ} {c k n a b : ℕ} (rising : Rising w c k) (g : Group w c k n a b) where
@@ -421,7 +377,7 @@ module _ {w : List ℕ} {n a b : ℕ} (g : Routes-of w n a b) where
   routes-up : Rising w 457 (route-rows w)
   routes-up = routes-rise w (g .formed)
 
-  pub routes-end : b ≤ 512
+  pub routes-end : b ≤ route-room
   routes-end = let v = high routes-up g .within in omega arith
 
   pub routes-outcomes : Outcomes w 969 a b
@@ -445,7 +401,7 @@ module _ {w : List ℕ} {n a b : ℕ} (g : Limits-of w n a b) where
   limits-up : Rising w 1993 (limit-rows w)
   limits-up = limits-rise w (g .formed)
 
-  pub limits-end : b ≤ 512
+  pub limits-end : b ≤ limit-room
   limits-end = let v = high limits-up g .within in omega arith
 
   pub limits-outcomes : Outcomes w 2505 a b
@@ -486,18 +442,18 @@ walk-start {w = w} {c = c} {k = k} =
 
 -- RULE 1.
 module _ (w : List ℕ) where
-  params-at : (i : ℕ) → i < min 64 (getD w 4 0) → node-of (workflow w) i .«has_params» ≡ column w 137 i
+  params-at : (i : ℕ) → i < min node-room (getD w 4 0) → node-of (workflow w) i .«has_params» ≡ column w 137 i
   unfolding node-of node-at
-  params-at i h = sym (ap (λ x. x .«has_params») (at-span (node-at w) _ i no-node h (sym (if-true _ _ _ (lt-ltb i 64 (omega arith))))))
+  params-at i h = sym (ap (λ x. x .«has_params») (at-span (node-at w) _ i no-node h (sym (if-true _ _ _ (lt-ltb i node-room (omega arith))))))
 
-  pub with-params : (i : ℕ) → i < min 64 (getD w 4 0) → (getD w 0 0 ≡ 2 → ⊥) → eqb (column w 137 i) 1 ≡ breaks-1 (workflow w) i
+  pub with-params : (i : ℕ) → i < min node-room (getD w 4 0) → (getD w 0 0 ≡ format-0-2 → ⊥) → eqb (column w 137 i) 1 ≡ breaks-1 (workflow w) i
   unfolding _and_
-  with-params i h f = rw (params-at i h, ne-eqb (getD w 0 0) 2 f)
+  with-params i h f = rw (params-at i h, ne-eqb (getD w 0 0) format-0-2 f)
 
-  pub no-params : getD w 0 0 ≡ 2 → Nothing ≡ lowest (getD w 4 0) (breaks-1 (workflow w))
+  pub no-params : getD w 0 0 ≡ format-0-2 → Nothing ≡ lowest (getD w 4 0) (breaks-1 (workflow w))
   unfolding _and_
   no-params e =
-      first-none (breaks-1 (workflow w)) (λ _ n. At n) Nothing (λ n. n) (getD w 4 0) (λ _. false) (λ j h. rw (eq-eqb (getD w 0 0) 2 e)) {c = getD w 4 0}
+      first-none (breaks-1 (workflow w)) (λ _ n. At n) Nothing (λ n. n) (getD w 4 0) (λ _. false) (λ j h. rw (eq-eqb (getD w 0 0) format-0-2 e)) {c = getD w 4 0}
       (the-cut (record { within = omega arith; below = λ j h. refl; fails = λ h. absurd (omega arith) }))
       (omega arith)
 
@@ -529,15 +485,15 @@ again-is g b (suc d) i m long e small =
     shuffle false true false v = refl
     shuffle false false u v = refl
 
-reserved-has : (t : Bool) (o : ℕ) → o < 256 → getD (reserved-marks t) o false ≡ eqb o 2 or t and eqb o 3
+reserved-has : (t : Bool) (o : ℕ) → o < 256 → getD (reserved-marks t) o false ≡ eqb o failed or t and eqb o exhausted
 unfolding if_then_else_ _or_ _and_
 reserved-has t o h =
     let l = length-replicate 256 false in
-    mark-at (set no-marks 2 true) 3 t (length-set no-marks 2 true ∙ l) (omega arith) o
-    ∙ rw (mark-at no-marks 2 true l (omega arith) o, getD-replicate 256 o false false h)
-    (split (eqb o 3)
-    (λ e. let z : o ≡ 3 = eqb-true o 3 e in rw z (split t (λ i. rw i) (λ i. rw i)))
-    (λ e. rw e (split (eqb o 2) (λ i. rw i) (λ i. rw i (split t (λ u. rw u) (λ u. rw u))))))
+    mark-at (set no-marks failed true) exhausted t (length-set no-marks failed true ∙ l) (omega arith) o
+    ∙ rw (mark-at no-marks failed true l (omega arith) o, getD-replicate 256 o false false h)
+    (split (eqb o exhausted)
+    (λ e. let z : o ≡ exhausted = eqb-true o exhausted e in rw z (split t (λ i. rw i) (λ i. rw i)))
+    (λ e. rw e (split (eqb o failed) (λ i. rw i) (λ i. rw i (split t (λ u. rw u) (λ u. rw u))))))
 
 module _ {w : List ℕ} {n a b : ℕ} (g : Declared-of w n a b) where
   reserved-in : some (reserved (workflow w) n) (workflow w .declared) ≡ some-in a b (λ j. getD (reserved-marks (is-0-2 (workflow w))) (column w 3913 j) false)
@@ -607,14 +563,14 @@ module _ {w : List ℕ} {n a b : ℕ} (g : Declared-of w n a b) where
 
 -- RULE 8. The declared outcomes with failed, and with exhausted where e holds.
 abbrev pub known : List Bool → (exhausted : Bool) → List Bool
-known m e = set (set m 2 true) 3 (e or getD (set m 2 true) 3 false)
+known m e = set (set m failed true) exhausted (e or getD (set m failed true) exhausted false)
 
-known-has : (m : List Bool) (e : Bool) (o : ℕ) → length m ≡ 256 → getD (known m e) o false ≡ eqb o 2 or eqb o 3 and e or getD m o false
+known-has : (m : List Bool) (e : Bool) (o : ℕ) → length m ≡ 256 → getD (known m e) o false ≡ eqb o failed or eqb o exhausted and e or getD m o false
 unfolding if_then_else_ _or_ _and_
 known-has m e o long =
-    mark-at (set m 2 true) 3 _ (length-set m 2 true ∙ long) (omega arith) o
-    ∙ rw (mark-at m 2 true long (omega arith) o, mark-at m 2 true long (omega arith) 3)
-    (split (eqb o 3) (λ h. let z : o ≡ 3 = eqb-true o 3 h in rw z) (λ h. rw h (split (eqb o 2) (λ i. rw i) (λ i. rw i))))
+    mark-at (set m failed true) exhausted _ (length-set m failed true ∙ long) (omega arith) o
+    ∙ rw (mark-at m failed true long (omega arith) o, mark-at m failed true long (omega arith) exhausted)
+    (split (eqb o exhausted) (λ h. let z : o ≡ exhausted = eqb-true o exhausted h in rw z) (λ h. rw h (split (eqb o failed) (λ i. rw i) (λ i. rw i))))
 
 module _ {w : List ℕ} {n a b : ℕ} (g : Routes-of w n a b) {x p q : ℕ} (d : Declared-of w x p q) where
   pub unrouted-in : some (unrouted (workflow w) n x) (workflow w .declared) ≡ some-in p q (unmarked w 3913 (marked w 969 a b))
@@ -631,31 +587,31 @@ module _ {w : List ℕ} {n a b : ℕ} (g : Routes-of w n a b) {x p q : ℕ} (d :
 
 -- RULE 9.
 pub breaks-9-at : {w : List ℕ} {n a b : ℕ} → Routes-of w n a b
-    → breaks-9 (workflow w) n ≡ eqb (node-of (workflow w) n .kind) 2 and (eqb a b or routes-exhausted (workflow w) n or some-in a b (astray-at w (getD w 4 0)))
+    → breaks-9 (workflow w) n ≡ eqb (node-of (workflow w) n .kind) await-signal and (eqb a b or routes-exhausted (workflow w) n or some-in a b (astray-at w (getD w 4 0)))
 unfolding breaks-9 routes-exhausted
 breaks-9-at {a = a} {b = b} g = rw (routes-any g, not-not (eqb a b), astray-in g)
 
 -- RULE 12. The marks but for exhausted.
-unlike : (m : List Bool) (o : ℕ) → length m ≡ 256 → not (getD (set m 3 false) o false) ≡ eqb o 3 or not (getD m o false)
+unlike : (m : List Bool) (o : ℕ) → length m ≡ 256 → not (getD (set m exhausted false) o false) ≡ eqb o exhausted or not (getD m o false)
 unfolding if_then_else_ _or_
-unlike m o long = rw (mark-at m 3 false long (omega arith) o) (split (eqb o 3) (λ h. rw h) (λ h. rw h))
+unlike m o long = rw (mark-at m exhausted false long (omega arith) o) (split (eqb o exhausted) (λ h. rw h) (λ h. rw h))
 
 -- With the marks m that the code has, exhausted is routed, or not.
 module _ {w : List ℕ} {n a b : ℕ} (g : Routes-of w n a b) {m : List Bool} (e : m ≡ marked w 969 a b) where
-  by-mark : {t : Bool} → getD m 3 false ≡ t → routed (workflow w) n 3 ≡ t
-  by-mark h = sym (routed-marked g 3 (omega arith)) ∙ (rw e at h)
+  by-mark : {t : Bool} → getD m exhausted false ≡ t → routed (workflow w) n exhausted ≡ t
+  by-mark h = sym (routed-marked g exhausted (omega arith)) ∙ (rw e at h)
 
-  pub exhausted-unrouted : getD m 3 false ≡ false → true ≡ misses (workflow w) n
+  pub exhausted-unrouted : getD m exhausted false ≡ false → true ≡ misses (workflow w) n
   unfolding misses
   exhausted-unrouted h = rw (by-mark h) (or-true _)
 
   module _ {p q : ℕ} (l : Limits-of w n p q) where
-    bad-limit-in : some (bad-limit (workflow w) n) (workflow w .limits) ≡ some-in p q (bad-row w (set (marked w 969 a b) 3 false) (getD w 2 0))
+    bad-limit-in : some (bad-limit (workflow w) n) (workflow w .limits) ≡ some-in p q (bad-row w (set (marked w 969 a b) exhausted false) (getD w 2 0))
     unfolding bad-limit out-of-range
     bad-limit-in =
         narrow (limits-up l) l (bad-limit (workflow w) n) (limit-at w) _
-        (λ j h. rw (limit-row w j h, unlike (marked w 969 a b) (column w 2505 j) (marked-long w 969 a b), routed-marked g (column w 2505 j) (limit-outcome w (l .formed) j h), or-assoc (eqb (column w 2505 j) 3)))
+        (λ j h. rw (limit-row w j h, unlike (marked w 969 a b) (column w 2505 j) (marked-long w 969 a b), routed-marked g (column w 2505 j) (limit-outcome w (l .formed) j h), or-assoc (eqb (column w 2505 j) exhausted)))
 
-    pub exhausted-routed : {t : Bool} → getD m 3 false ≡ true → t ≡ some-in p q (bad-row w (set m 3 false) (getD w 2 0)) → t ≡ misses (workflow w) n
+    pub exhausted-routed : {t : Bool} → getD m exhausted false ≡ true → t ≡ some-in p q (bad-row w (set m exhausted false) (getD w 2 0)) → t ≡ misses (workflow w) n
     unfolding misses
     exhausted-routed h t = rw e at t ∙ sym bad-limit-in ∙ rw (by-mark h) (or-false _)

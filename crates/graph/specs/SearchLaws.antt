@@ -10,10 +10,12 @@ use borrow.Author.Tests.{eq-eqb, eqb-true, eqb-false, not-true, not-false, ltb-t
 use Rattle.laws.specs.Bool.{if_then_else_, _and_, _or_, split, both, if-true}
 use Rattle.laws.specs.Rows.{span, span-more, span-none}
 use Rattle.laws.specs.First.{first}
+use Rattle.laws.specs.Every.{every}
+use Rattle.workflow.specs.Code.{node-room, route-room, limit-room, action-room, declared-room}
 use Rattle.workflow.specs.View.{Workflow, workflow, route-at, limit-at, declared-at}
 use Rattle.workflow.specs.Lookup.{are, route-of, limit-of}
 use Rattle.workflow.specs.declared.Found.the-variants.{At, Nothing}
-use Rattle.graph.specs.Form.{chained-from, chained, ascends, route-before, limit-before, declared-before, form}
+use Rattle.graph.specs.Form.{route-fits, limit-fits, declared-fits, chained-from, chained, ascends, route-before, limit-before, declared-before, form}
 
 -- THE CUT: the lowest number below k that fails, or k.
 cut-from : (ℕ → Bool) → (i m : ℕ) → ℕ
@@ -359,6 +361,29 @@ form-sorted f e =
     let c = both _ _ (both _ _ b .1) .1 in
     record { routes = both _ _ a .0; limits = both _ _ b .0; declared = both _ _ c .0 }
 
+-- THE PARTS OF THE FORM.
+pub record Parts (f : Workflow) : Type 0 where
+  pub few-nodes : f .node-count ≤ node-room
+  pub few-actions : f .action-count ≤ action-room
+  pub routes-fit : every (route-fits f) (f .routes) ≡ true
+  pub limits-fit : every (limit-fits f) (f .limits) ≡ true
+  pub declared-fit : every (declared-fits f) (f .declared) ≡ true
+
+pub parts-of : (f : Workflow) → form f ≡ true → Parts f
+unfolding form
+parts-of f e =
+    let counts = both _ _ e .0 in
+    let routes = both _ _ (both _ _ (both _ _ (both _ _ e .1) .1) .1) .1 in
+    let limits = both _ _ (both _ _ routes .1) .1 in
+    let declared = both _ _ (both _ _ limits .1) .1 in
+    record {
+      few-nodes = leb-true _ _ (both _ _ counts .0);
+      few-actions = leb-true _ _ (both _ _ (both _ _ (both _ _ (both _ _ counts .1) .1) .1) .0);
+      routes-fit = both _ _ routes .0;
+      limits-fit = both _ _ limits .0;
+      declared-fit = both _ _ declared .0;
+    }
+
 -- A TABLE of rows with a node, an outcome and a value, column by column.
 record Table {A : Type 0} (w : List ℕ) (a b t k : ℕ) (f : ℕ → A) (node outcome value : A → ℕ) : Type 0 where
   major-fits : a + k ≤ 4169
@@ -395,26 +420,26 @@ module _ {A : Type 0} {w : List ℕ} {a b t k : ℕ} {f : ℕ → A} {node outco
 
 -- How many rows there are.
 abbrev pub route-rows : List ℕ → ℕ
-route-rows w = min 512 (getD w 5 0)
+route-rows w = min route-room (getD w 5 0)
 
 abbrev pub limit-rows : List ℕ → ℕ
-limit-rows w = min 512 (getD w 6 0)
+limit-rows w = min limit-room (getD w 6 0)
 
 abbrev pub declared-rows : List ℕ → ℕ
-declared-rows w = min 256 (getD w 8 0)
+declared-rows w = min declared-room (getD w 8 0)
 
 module _ (w : List ℕ) where
   pub route-row : (j : ℕ) → j < route-rows w → route-at w j ≡ record { node = column w 457 j; outcome = column w 969 j; target = column w 1481 j }
   unfolding route-at
-  route-row j h = if-true _ _ _ (lt-ltb j 512 (omega arith))
+  route-row j h = if-true _ _ _ (lt-ltb j route-room (omega arith))
 
   pub limit-row : (j : ℕ) → j < limit-rows w → limit-at w j ≡ record { node = column w 1993 j; outcome = column w 2505 j; limit = column w 3017 j }
   unfolding limit-at
-  limit-row j h = if-true _ _ _ (lt-ltb j 512 (omega arith))
+  limit-row j h = if-true _ _ _ (lt-ltb j limit-room (omega arith))
 
   pub declared-row : (j : ℕ) → j < declared-rows w → declared-at w j ≡ record { action = column w 3657 j; outcome = column w 3913 j }
   unfolding declared-at
-  declared-row j h = if-true _ _ _ (lt-ltb j 256 (omega arith))
+  declared-row j h = if-true _ _ _ (lt-ltb j declared-room (omega arith))
 
   route-table : Table w 457 969 1481 (route-rows w) (route-at w) (λ x. x .node) (λ x. x .outcome) (λ x. x .target)
   route-table =

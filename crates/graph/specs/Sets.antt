@@ -1,11 +1,12 @@
 -- Reached nodes, as a 64-bit set (W14 and W15 of graph.rs).
-use mathlib.Core.Bool.{Bool, true, false, not}
+use mathlib.Core.Bool.{Bool, true, false}
 use mathlib.Core.List.{List, [], _∷_}
 use Prim.Native.Nat.{ℕ, zero, suc, _/_, _%_, _^_}
 use lib.Dec.{leb, eqb}
 use lib.Bits.{bitOr}
 use Rattle.laws.specs.Bool.{if_then_else_}
 use Rattle.laws.specs.Rows.{span}
+use Rattle.workflow.specs.Code.{complete}
 use Rattle.workflow.specs.View.{Workflow}
 use Rattle.workflow.specs.Lookup.{node-of}
 use Rattle.workflow.specs.declared.Node.{Node}
@@ -41,7 +42,7 @@ closed f b s = repeated (f .node-count) (pass b (f .routes)) s
 -- The complete and fail nodes.
 unfoldable pub ends-of : Workflow → List ℕ → (set : ℕ) → ℕ
 ends-of f [] s = s
-ends-of f (n ∷ ns) s = ends-of f ns (if leb 3 (node-of f n .kind) then mark s n else s)
+ends-of f (n ∷ ns) s = ends-of f ns (if leb complete (node-of f n .kind) then mark s n else s)
 
 -- The nodes that are reached from start, and those from which an end is reached.
 unfoldable pub reached : Workflow → ℕ

@@ -7,13 +7,13 @@ use lib.Dec.{eqb, ltb}
 use borrow.Author.Tests.{eq-eqb, ne-eqb}
 use Rattle.laws.specs.Bool.{if_then_else_, _and_}
 use Rattle.laws.specs.Rows.{span}
-use Rattle.laws.specs.First.{first}
-use Rattle.laws.specs.In.{In, Hit, hit, miss, hits}
+use Rattle.laws.specs.In.{Hit, hit, miss, hits}
 use Rattle.workflow.specs.declared.Ceilings.{Ceilings}
 use Rattle.workflow.specs.declared.Found.{Found}
 use Rattle.workflow.specs.declared.Found.the-variants.{At, Nothing}
 use Rattle.graph.specs.declared.Verdict.{Verdict}
 use Rattle.graph.specs.declared.Verdict.the-variants.{Fine, Broken}
+use Rattle.workflow.specs.Code.{none, format-0-2}
 use Rattle.workflow.specs.View.{Workflow}
 use Rattle.graph.specs.Lowest.{lowest, lowest-none}
 use Rattle.graph.specs.Form.{form}
@@ -47,13 +47,13 @@ none-passes m p h = by (hits p (λ _ n. At n) Nothing 0 (span (λ n. n) 0 m))
     by (miss g) = refl
 
 module _ (k format : ℕ) (p : ℕ → Bool) (m : ℕ) where
-  pub at-0-2 : {x : Found} {v : Verdict} → format ≡ 2 → x ≡ lowest m p → v ≡ rule-at k x → v ≡ rule-at k (lowest m (λ n. eqb format 2 and p n))
+  pub at-0-2 : {x : Found} {v : Verdict} → format ≡ format-0-2 → x ≡ lowest m p → v ≡ rule-at k x → v ≡ rule-at k (lowest m (λ n. eqb format format-0-2 and p n))
   unfolding _and_
-  at-0-2 h e z = z ∙ ap (rule-at k) (e ∙ rw (eq-eqb format 2 h))
+  at-0-2 h e z = z ∙ ap (rule-at k) (e ∙ rw (eq-eqb format format-0-2 h))
 
-  pub at-0-1 : (format ≡ 2 → ⊥) → Fine ≡ rule-at k (lowest m (λ n. eqb format 2 and p n))
+  pub at-0-1 : (format ≡ format-0-2 → ⊥) → Fine ≡ rule-at k (lowest m (λ n. eqb format format-0-2 and p n))
   unfolding _and_ rule-at
-  at-0-1 h = ap (rule-at k) (sym (none-passes m (λ n. eqb format 2 and p n) (λ n. rw (ne-eqb format 2 h))))
+  at-0-1 h = ap (rule-at k) (sym (none-passes m (λ n. eqb format format-0-2 and p n) (λ n. rw (ne-eqb format format-0-2 h))))
 
 -- A formed sheet whose start is there; and one that the rules of its nodes take.
 pub record Started (f : Workflow) : Type 0 where
@@ -87,6 +87,6 @@ module _ (f : Workflow) (c : Ceilings) where
   unfolding verdict first-broken if_then_else_
   on-formed h z = rw h z
 
-  pub unformed : form f ≡ false → Broken 20 255 ≡ verdict f c
+  pub unformed : form f ≡ false → Broken 20 none ≡ verdict f c
   unfolding verdict first-broken if_then_else_
   unformed h = rw h

@@ -6,8 +6,9 @@ use lib.Dec.{ltb, eqb}
 use Rattle.laws.specs.Bool.{if_then_else_, _and_, _or_}
 use Rattle.laws.specs.Rows.{span}
 use Rattle.laws.specs.First.{first}
+use Rattle.workflow.specs.Code.{none, format-0-1, reconcilable}
 use Rattle.workflow.specs.View.{Workflow}
-use Rattle.workflow.specs.Lookup.{policy-of}
+use Rattle.workflow.specs.Lookup.{is-0-2, policy-of}
 use Rattle.workflow.specs.declared.Action.{Action}
 use Rattle.workflow.specs.declared.Found.{Found}
 use Rattle.workflow.specs.declared.Found.the-variants.{At, Nothing}
@@ -16,12 +17,12 @@ use Rattle.graph.specs.declared.Verdict.{Verdict}
 use Rattle.graph.specs.declared.Verdict.the-variants.{Fine, Broken}
 use Rattle.graph.specs.Lowest.{lowest}
 use Rattle.graph.specs.Form.{form}
-use Rattle.graph.specs.Rules.{is-0-2, within, breaks-1, breaks-7, breaks-8, breaks-9, breaks-12}
+use Rattle.graph.specs.Rules.{within, breaks-1, breaks-7, breaks-8, breaks-9, breaks-12}
 use Rattle.graph.specs.Sets.{has, reached, ending}
 
 -- A rule of the whole sheet, and one whose item is the lowest that breaks it.
 abbrev pub rule : (number : ℕ) → (holds : Bool) → Verdict
-rule k h = if h then Fine else Broken k 255
+rule k h = if h then Fine else Broken k none
 
 unfoldable pub rule-at : (number : ℕ) → (broken-by : Found) → Verdict
 rule-at k (At i) = Broken k i
@@ -34,7 +35,7 @@ is-broken (Broken k i) = true
 -- Per action: 16 (reconcilable), then 7.
 abbrev pub action-verdict : Workflow → Ceilings → (action : ℕ) → Verdict
 action-verdict f c a =
-    if eqb (policy-of f a .effect) 2 then Broken 16 a else
+    if eqb (policy-of f a .effect) reconcilable then Broken 16 a else
     if breaks-7 f (c .attempts) a then Broken 7 a else
     Fine
 
@@ -57,7 +58,7 @@ graph-stages f =
 
 abbrev pub formed-stages : Workflow → Ceilings → List Verdict
 formed-stages f c =
-    rule 1 (eqb (f .format) 1 or is-0-2 f)
+    rule 1 (eqb (f .format) format-0-1 or is-0-2 f)
     ∷ rule-at 1 (lowest (f .node-count) (breaks-1 f))
     ∷ rule 3 (within (c .nodes) (f .node-count))
     ∷ rule 5 (ltb (f .start) (f .node-count))

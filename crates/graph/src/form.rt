@@ -33,6 +33,7 @@ use workflow::ROUTES;
 use workflow::Route;
 use workflow::action_at;
 use workflow::capped;
+use workflow::code;
 use workflow::declared_at;
 use workflow::limit_at;
 use workflow::node_at;
@@ -44,15 +45,6 @@ ghost use lib.Dec.{leb};
 ghost use Rattle.workflow.specs.View.{workflow, column-blank, blank};
 ghost use Rattle.graph.specs.Form.{counts-fit, node-fits, routes-at, route-fits, limit-fits, declared-fits, ascends, form};
 ghost use Rattle.graph.specs.FormLaws.{nodes-formed, actions-formed, routes-formed, limits-formed, declared-formed, nodes-blank, routes-blank, limits-blank, actions-blank, declared-blank};
-
-// The kinds of node.
-pub const ACTIVITY: u32 = 1;
-
-pub const AWAIT_SIGNAL: u32 = 2;
-
-const COMPLETE: u32 = 3;
-
-const FAIL: u32 = 4;
 
 // The counts.
 
@@ -78,14 +70,14 @@ fn counts_fit(w: &[u32; NUMBERS]) -> bool
 fn node_fits(x: Node) -> bool
     ensures { λ r. ⌜ r ≡ node-fits x ⌝ }
 {
-    if x.kind == ACTIVITY {
+    if x.kind == code::ACTIVITY {
         return (x.has_params < 2)
             & (x.signal == 0)
             & (x.code == 0)
             & (x.detail == 0)
             & (x.has_limits < 2);
     }
-    if x.kind == AWAIT_SIGNAL {
+    if x.kind == code::AWAIT_SIGNAL {
         return (x.action == 0)
             & (x.has_params == 0)
             & (x.signal < 256)
@@ -93,7 +85,7 @@ fn node_fits(x: Node) -> bool
             & (x.detail == 0)
             & (x.has_limits < 2);
     }
-    if x.kind == COMPLETE {
+    if x.kind == code::COMPLETE {
         return (x.action == 0)
             & (x.has_params == 0)
             & (x.signal == 0)
@@ -101,7 +93,7 @@ fn node_fits(x: Node) -> bool
             & (x.detail == 0)
             & (x.has_limits == 0);
     }
-    if x.kind == FAIL {
+    if x.kind == code::FAIL {
         return (x.action == 0)
             & (x.has_params == 0)
             & (x.signal == 0)
@@ -115,25 +107,25 @@ fn routes_at(w: &[u32; NUMBERS], node: u32) -> bool
     ensures { λ r. ⌜ r ≡ routes-at (workflow (now (w .entry))) node ⌝ }
 {
     let x = node_of(w, node);
-    (node < w[NODE_COUNT]) & ((x.kind == ACTIVITY) | (x.kind == AWAIT_SIGNAL))
+    (node < w[NODE_COUNT]) & ((x.kind == code::ACTIVITY) | (x.kind == code::AWAIT_SIGNAL))
 }
 
 fn route_fits(w: &[u32; NUMBERS], x: Route) -> bool
     ensures { λ r. ⌜ r ≡ route-fits (workflow (now (w .entry))) x ⌝ }
 {
-    routes_at(w, x.node) & (x.outcome < 255)
+    routes_at(w, x.node) & (x.outcome < code::NONE)
 }
 
 fn limit_fits(w: &[u32; NUMBERS], x: Limit) -> bool
     ensures { λ r. ⌜ r ≡ limit-fits (workflow (now (w .entry))) x ⌝ }
 {
-    routes_at(w, x.node) & (node_of(w, x.node).has_limits == 1) & (x.outcome < 255)
+    routes_at(w, x.node) & (node_of(w, x.node).has_limits == 1) & (x.outcome < code::NONE)
 }
 
 fn declared_fits(w: &[u32; NUMBERS], x: Declared) -> bool
     ensures { λ r. ⌜ r ≡ declared-fits (workflow (now (w .entry))) x ⌝ }
 {
-    (x.action < w[ACTION_COUNT]) & (x.outcome < 255)
+    (x.action < w[ACTION_COUNT]) & (x.outcome < code::NONE)
 }
 
 // A row of x and y may follow one of a and b.
@@ -166,7 +158,7 @@ fn actions_formed(w: &[u32; NUMBERS]) -> bool
     let mut i: usize = 0;
     while i < n {
         let x = action_at(w, i);
-        if 3 <= x.effect {
+        if code::RECONCILABLE < x.effect {
             return false;
         }
         i += 1;

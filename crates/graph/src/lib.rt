@@ -8,6 +8,7 @@ use workflow::Ceilings;
 use workflow::FORMAT;
 use workflow::Found;
 use workflow::NUMBERS;
+use workflow::code;
 ghost use mathlib.Core.Path.{_≡_};
 ghost use mathlib.Core.Bool.{true};
 ghost use Rattle.workflow.specs.View.{workflow};
@@ -37,7 +38,7 @@ fn reach_verdict(w: &[u32; NUMBERS]) -> Verdict
     requires { ⌜ Rules (workflow (now w)) ⌝ }
     ensures { λ r. ⌜ r ≡ first-broken (reach-stages (workflow (now (w .entry)))) ⌝ }
 {
-    if w[FORMAT] == 2 {
+    if w[FORMAT] == code::FORMAT_0_2 {
         let unreached = broken_by(14, reach::unreached(w));
         if let Verdict::Broken { rule, item } = unreached {
             return Verdict::Broken { rule, item };
@@ -56,7 +57,7 @@ pub fn held(number: u32, holds: bool) -> Verdict
     }
     Verdict::Broken {
         rule: number,
-        item: 255,
+        item: code::NONE,
     }
 }
 
@@ -121,6 +122,6 @@ pub fn validate(w: &[u32; NUMBERS], c: Ceilings) -> Verdict
     }
     Verdict::Broken {
         rule: 20,
-        item: 255,
+        item: code::NONE,
     }
 }

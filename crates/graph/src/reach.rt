@@ -8,6 +8,7 @@ use workflow::ROUTES;
 use workflow::Route;
 use workflow::START;
 use workflow::capped;
+use workflow::code;
 use workflow::node_of;
 use workflow::route_at;
 ghost use mathlib.Core.Path.{_≡_};
@@ -78,7 +79,7 @@ fn add_end(set: u64, node: u32, kind: u32) -> u64
     requires { ⌜ node < 64 ⌝ }
     ensures { λ r. ⌜ r ≡ add-end set node kind ⌝ }
 {
-    if 3 <= kind {
+    if code::COMPLETE <= kind {
         return set | bit(node);
     }
     set

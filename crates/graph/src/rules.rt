@@ -1,7 +1,5 @@
 // Rules 1, 3, 5 to 9, 12 and 16 of a sheet whose form holds. A node's rows, and an action's, stand from `from` to `to`.
 use crate::Verdict;
-use crate::form::ACTIVITY;
-use crate::form::AWAIT_SIGNAL;
 use crate::search::rows_before;
 use crate::search::rows_end;
 use workflow::ACTION_COUNT;
@@ -31,6 +29,7 @@ use workflow::ROUTE_TARGET;
 use workflow::ROUTES;
 use workflow::START;
 use workflow::capped;
+use workflow::code;
 use workflow::node_of;
 use workflow::policy_of;
 ghost use mathlib.Core.Path.{_≡_};
@@ -40,24 +39,22 @@ ghost use lib.Dec.{eqb, ltb};
 ghost use Rattle.laws.specs.Bool.{_and_, _or_};
 ghost use Rattle.laws.specs.Rows.{span};
 ghost use Rattle.laws.specs.First.{some};
+ghost use Rattle.workflow.specs.Code.{route-room, limit-room, format-0-1};
 ghost use Rattle.workflow.specs.View.{workflow};
+ghost use Rattle.workflow.specs.Lookup.{is-0-2};
 ghost use Rattle.graph.specs.Lowest.{lowest};
 ghost use Rattle.graph.specs.Form.{form};
-ghost use Rattle.graph.specs.Rules.{is-0-2, within, one-more, may-route-exhausted, unrouted, extra, breaks-1, breaks-7, breaks-8, breaks-9, breaks-12};
+ghost use Rattle.graph.specs.Rules.{within, one-more, may-route-exhausted, unrouted, extra, breaks-1, breaks-7, breaks-8, breaks-9, breaks-12};
 ghost use Rattle.graph.specs.Verdict.{is-broken, action-verdict, actions-verdict};
 ghost use Rattle.graph.specs.SearchLaws.{column};
 ghost use Rattle.graph.specs.RulesLaws.{some-in, Outcomes, marked, unmarked, astray-at, again, reserved-marks, out-of-range, bad-row, Routes-of, Limits-of, Declared-of, misroutes, routes-exhausted, misses, breaks};
 
-const WORKFLOW_FORMAT_0_2: u32 = 2;
-
-const RECONCILABLE: u32 = 2;
-
 // Outcomes are below 255.
 const OUTCOMES: usize = 256;
 
-const OUTCOME_FAILED: usize = 2;
+const OUTCOME_FAILED: usize = code::FAILED as usize;
 
-const OUTCOME_EXHAUSTED: usize = 3;
+const OUTCOME_EXHAUSTED: usize = code::EXHAUSTED as usize;
 
 // The outcomes of some rows as marks.
 
@@ -102,9 +99,9 @@ fn has_unmarked(
 
 // 1: a known format.
 pub fn has_format(w: &[u32; NUMBERS]) -> bool
-    ensures { λ r. ⌜ r ≡ eqb (workflow (now (w .entry)) .format) 1 or is-0-2 (workflow (now (w .entry))) ⌝ }
+    ensures { λ r. ⌜ r ≡ eqb (workflow (now (w .entry)) .format) format-0-1 or is-0-2 (workflow (now (w .entry))) ⌝ }
 {
-    (w[FORMAT] == 1) | (w[FORMAT] == WORKFLOW_FORMAT_0_2)
+    (w[FORMAT] == code::FORMAT_0_1) | (w[FORMAT] == code::FORMAT_0_2)
 }
 
 // 1: the lowest node with params in format 1.
@@ -112,7 +109,7 @@ pub fn lowest_with_params(w: &[u32; NUMBERS]) -> Found
     requires { ⌜ form (workflow (now w)) ≡ true ⌝ }
     ensures { λ r. ⌜ r ≡ lowest (workflow (now (w .entry)) .node-count) (breaks-1 (workflow (now (w .entry)))) ⌝ }
 {
-    if w[FORMAT] == WORKFLOW_FORMAT_0_2 {
+    if w[FORMAT] == code::FORMAT_0_2 {
         return Found::Nothing;
     }
     let n = capped(w[NODE_COUNT], NODES);
@@ -183,7 +180,7 @@ fn breaks_7(w: &[u32; NUMBERS], most: u32, action: u32, from: usize, to: usize) 
     if from == to {
         return true;
     }
-    if is_declared_again(w, w[FORMAT] == WORKFLOW_FORMAT_0_2, from, to) {
+    if is_declared_again(w, w[FORMAT] == code::FORMAT_0_2, from, to) {
         return true;
     }
     let x = policy_of(w, action);
@@ -195,7 +192,7 @@ fn action_verdict(w: &[u32; NUMBERS], c: Ceilings, action: u32, from: usize, to:
     ensures { λ r. ⌜ r ≡ action-verdict (workflow (now (w .entry))) c action ⌝ }
 {
     let x = policy_of(w, action);
-    if x.effect == RECONCILABLE {
+    if x.effect == code::RECONCILABLE {
         return Verdict::Broken {
             rule: 16,
             item: action,
@@ -247,7 +244,7 @@ fn may_route_exhausted(w: &[u32; NUMBERS], node: u32) -> bool
     ensures { λ r. ⌜ r ≡ may-route-exhausted (workflow (now (w .entry))) node ⌝ }
 {
     let x = node_of(w, node);
-    (w[FORMAT] == WORKFLOW_FORMAT_0_2) & (x.has_limits == 1)
+    (w[FORMAT] == code::FORMAT_0_2) & (x.has_limits == 1)
 }
 
 // The action declares an outcome that the node does not route.
@@ -289,7 +286,7 @@ fn has_extra(
 
 // A route of the part leads to no node.
 fn has_astray(w: &[u32; NUMBERS], nodes: u32, from: usize, to: usize) -> bool
-    requires { ⌜ to ≤ 512 ⌝ }
+    requires { ⌜ to ≤ route-room ⌝ }
     ensures { λ r. ⌜ r ≡ some-in from to (astray-at (now (w .entry)) nodes) ⌝ }
 {
     let mut i = from;
@@ -324,7 +321,7 @@ fn breaks_8(w: &[u32; NUMBERS], node: u32, from: usize, to: usize) -> bool
     ensures { λ r. ⌜ r ≡ breaks-8 (workflow (now (w .entry))) node ⌝ }
 {
     let x = node_of(w, node);
-    if x.kind != ACTIVITY {
+    if x.kind != code::ACTIVITY {
         return false;
     }
     if w[ACTION_COUNT] <= x.action {
@@ -341,7 +338,7 @@ fn routes_exhausted(w: &[u32; NUMBERS], node: u32, from: usize, to: usize) -> bo
     ensures { λ r. ⌜ r ≡ routes-exhausted (workflow (now (w .entry))) node ⌝ }
 {
     let routed = marks(w, ROUTE_OUTCOME, from, to);
-    (w[FORMAT] == WORKFLOW_FORMAT_0_2) & (routed[OUTCOME_EXHAUSTED] & !may_route_exhausted(w, node))
+    (w[FORMAT] == code::FORMAT_0_2) & (routed[OUTCOME_EXHAUSTED] & !may_route_exhausted(w, node))
 }
 
 fn breaks_9(w: &[u32; NUMBERS], node: u32, from: usize, to: usize) -> bool
@@ -349,7 +346,7 @@ fn breaks_9(w: &[u32; NUMBERS], node: u32, from: usize, to: usize) -> bool
     ensures { λ r. ⌜ r ≡ breaks-9 (workflow (now (w .entry))) node ⌝ }
 {
     let x = node_of(w, node);
-    if x.kind != AWAIT_SIGNAL {
+    if x.kind != code::AWAIT_SIGNAL {
         return false;
     }
     if from == to {
@@ -385,7 +382,7 @@ fn has_bad_limit(
     from: usize,
     to: usize,
 ) -> bool
-    requires { ⌜ Outcomes (now w) 2505 from to × (to ≤ 512) ⌝ }
+    requires { ⌜ Outcomes (now w) 2505 from to × (to ≤ limit-room) ⌝ }
     ensures { λ r. ⌜ r ≡ some-in from to (bad-row (now (w .entry)) (now (m .entry)) most) ⌝ }
 {
     let mut i = from;
@@ -420,7 +417,7 @@ fn breaks_12(w: &[u32; NUMBERS], node: u32, from: usize, to: usize) -> bool
     if x.has_limits != 1 {
         return false;
     }
-    if w[FORMAT] != WORKFLOW_FORMAT_0_2 {
+    if w[FORMAT] != code::FORMAT_0_2 {
         return true;
     }
     let k = capped(w[LIMIT_COUNT], LIMITS);

@@ -14,7 +14,7 @@ fn number(n: u32) {
 // outcome 4 to 0, exhausted to 3, limit 1 on 4. Node 2 complete, 3 fail. Action 0: effect 1, ok, 2 attempts.
 fn sheet() -> [u32; workflow::NUMBERS] {
     let mut w = [0u32; workflow::NUMBERS];
-    w[workflow::FORMAT] = 2;
+    w[workflow::FORMAT] = workflow::code::FORMAT_0_2;
     w[workflow::MAX_VISITS_PER_NODE] = 3;
     w[workflow::MAX_ACTIVATIONS] = 10;
     w[workflow::NODE_COUNT] = 4;
@@ -22,19 +22,19 @@ fn sheet() -> [u32; workflow::NUMBERS] {
     w[workflow::LIMIT_COUNT] = 1;
     w[workflow::ACTION_COUNT] = 1;
     w[workflow::DECLARED_COUNT] = 1;
-    w[workflow::NODE_KIND] = model::code::ACTIVITY;
-    w[workflow::NODE_KIND + 1] = model::code::AWAIT_SIGNAL;
-    w[workflow::NODE_KIND + 2] = model::code::COMPLETE;
-    w[workflow::NODE_KIND + 3] = model::code::FAIL;
+    w[workflow::NODE_KIND] = workflow::code::ACTIVITY;
+    w[workflow::NODE_KIND + 1] = workflow::code::AWAIT_SIGNAL;
+    w[workflow::NODE_KIND + 2] = workflow::code::COMPLETE;
+    w[workflow::NODE_KIND + 3] = workflow::code::FAIL;
     w[workflow::NODE_SIGNAL + 1] = 5;
     w[workflow::NODE_HAS_LIMITS + 1] = 1;
     w[workflow::NODE_CODE + 3] = 77;
     w[workflow::ROUTE_TARGET] = 1;
     w[workflow::ROUTE_NODE + 1] = 1;
-    w[workflow::ROUTE_OUTCOME + 1] = model::code::RECEIVED;
+    w[workflow::ROUTE_OUTCOME + 1] = workflow::code::RECEIVED;
     w[workflow::ROUTE_TARGET + 1] = 2;
     w[workflow::ROUTE_NODE + 2] = 1;
-    w[workflow::ROUTE_OUTCOME + 2] = model::code::EXHAUSTED;
+    w[workflow::ROUTE_OUTCOME + 2] = workflow::code::EXHAUSTED;
     w[workflow::ROUTE_TARGET + 2] = 3;
     w[workflow::ROUTE_NODE + 3] = 1;
     w[workflow::ROUTE_OUTCOME + 3] = 4;
@@ -48,17 +48,17 @@ fn sheet() -> [u32; workflow::NUMBERS] {
 
 fn show_kind(w: &[u32; workflow::NUMBERS], node: u32) {
     let x = workflow::node_of(w, node);
-    if x.kind == model::code::ACTIVITY {
+    if x.kind == workflow::code::ACTIVITY {
         text(b"activity, action ");
         number(x.action);
         return;
     }
-    if x.kind == model::code::AWAIT_SIGNAL {
+    if x.kind == workflow::code::AWAIT_SIGNAL {
         text(b"await signal ");
         number(x.signal);
         return;
     }
-    if x.kind == model::code::COMPLETE {
+    if x.kind == workflow::code::COMPLETE {
         text(b"complete");
         return;
     }

@@ -18,7 +18,7 @@ use Rattle.model.specs.declared.answer.Note.{Note}
 use Rattle.model.specs.declared.answer.Ending.{Ending}
 use Rattle.model.specs.declared.moves.Next.{Next}
 use Rattle.model.specs.declared.moves.Next.the-variants.{Rest, Enter, Take, Consume, Wants, Refuse}
-use Rattle.model.specs.Code.{none, largest, run-started, activity-result, invocation-resolved}
+use Rattle.workflow.specs.Code.{none, largest, run-started, activity-result, invocation-resolved}
 use Rattle.model.specs.Record.{fresh}
 use Rattle.model.specs.Check.{consistent}
 use Rattle.model.specs.EventCheck.{event-fits}

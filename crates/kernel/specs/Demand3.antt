@@ -17,7 +17,7 @@ use Rattle.model.specs.declared.event.Limits.{Limits}
 use Rattle.model.specs.declared.answer.Order.{Order}
 use Rattle.model.specs.declared.answer.Note.{Note}
 use Rattle.model.specs.declared.answer.Ending.{Ending}
-use Rattle.model.specs.Code.{signal-received, activity-result}
+use Rattle.workflow.specs.Code.{signal-received, activity-result}
 use Rattle.model.specs.Record.{is-terminal}
 use Rattle.model.specs.Store.{stored}
 use Rattle.model.specs.Check.{consistent}

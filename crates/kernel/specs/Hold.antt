@@ -17,7 +17,7 @@ use Rattle.model.specs.declared.Visits.{Visits}
 use Rattle.model.specs.declared.InvocationState.{InvocationState}
 use Rattle.model.specs.declared.event.Event.{Event}
 use Rattle.model.specs.declared.answer.Order.{Order}
-use Rattle.model.specs.Code.{none, signal-received, activity-result}
+use Rattle.workflow.specs.Code.{none, signal-received, activity-result}
 use Rattle.model.specs.Record.{no-visits, visits-of, is-terminal, seen, fresh}
 use Rattle.model.specs.Store.{stored}
 use Rattle.model.specs.Check.{consistent}

@@ -2,7 +2,10 @@ pub mod Drive
 pub mod Call
 pub mod Demand3
 pub mod Joint
+pub mod Bounds
 pub mod Held
+pub mod Decision
+pub mod DriveLaws
 pub mod Hold
 pub mod Whole
 pub mod Admission

@@ -25,7 +25,7 @@ use Rattle.model.specs.declared.event.Limits.{Limits}
 use Rattle.model.specs.declared.Output.{Output}
 use Rattle.model.specs.declared.moves.Next.{Next}
 use Rattle.model.specs.declared.moves.Next.the-variants.{Rest, Enter, Take, Consume, Wants, Refuse}
-use Rattle.model.specs.Code.{none, largest, waiting, running, run-completed, run-failed}
+use Rattle.workflow.specs.Code.{none, largest, waiting, running, run-completed, run-failed}
 use Rattle.model.specs.Record.{visits-of, is-terminal, seen, fresh}
 use Rattle.model.specs.EventCheck.{event-fits}
 use Rattle.model.specs.Check.{is-no-invocation, terminal-fits, waits, works, live-fits, consistent, stands}
@@ -38,7 +38,7 @@ use Rattle.kernel.specs.Drive.{Machine, driven}
 use Rattle.kernel.specs.declared.Call.{Call}
 use Rattle.kernel.specs.Call.{Accepted, Answer, next, wants, refused, Last, no-record, last, is-start, start-stage, next-stage, record-stage, admission, given, Course, away, stepped, course-by, course, finish-by, finish, conclude, counted, transition}
 use Rattle.kernel.specs.Demand3.{Entry, standing-after, standing, made, history, Done, done-by, accepted, signals, in-store, endings, Fate, no-signal, still-stored, has-ended, counts, Reports, Not-26, Demand3, demand-3}
-use Rattle.kernel.specs.Held.{need, Holds, Held, held-driven, driven-frozen, driven-hears}
+use Rattle.kernel.specs.Held.{Holds, Held, held-driven, driven-frozen, driven-hears}
 use Rattle.kernel.specs.Hold.{Fact, History, fresh-history, one-more}
 
 -- BEFORE THE STEP. What an admitted call has.
@@ -203,13 +203,13 @@ module _ (f : Workflow) (sheet : Sound f) (c : Call) (s : State) (b : Begins f s
                     results-long = h .checks .tidy .result-slots .long;
                     streaks-long = h .checks .tidy .streak-slots .long;
                   };
-              few-notes = omega (arith, h .few-notes);
-              few-endings = omega (arith, h .few-endings);
+              few-notes = omega (arith, h .bounds .few-notes);
+              few-endings = omega (arith, h .bounds .few-endings);
             };
       }))
-  tells-finish (Enter n j) h = absurd (omega (arith, h .enough))
-  tells-finish Take h = absurd (omega (arith, h .enough))
-  tells-finish Consume h = absurd (omega (arith, h .enough))
+  tells-finish (Enter n j) h = absurd (omega (arith, h .bounds .enough))
+  tells-finish Take h = absurd (omega (arith, h .bounds .enough))
+  tells-finish Consume h = absurd (omega (arith, h .bounds .enough))
   tells-finish (Wants n i j) h = record { tells = tt }
   tells-finish (Refuse k) h = by (h .checks)
     where
@@ -231,7 +231,7 @@ module _ (f : Workflow) (sheet : Sound f) (c : Call) (s : State) (b : Begins f s
   unfolding conclude counted
   runs-step =
       let h = held-driven f sheet (c .limits .microsteps) s (c .event) (c .mappings) (b .ready) (b .tidy) in
-      record { tells = tells-finish (x .next) h .tells; few = omega (arith, h .steps); reports = reports-finish (x .next) }
+      record { tells = tells-finish (x .next) h .tells; few = omega (arith, h .bounds .steps); reports = reports-finish (x .next) }
 
 runs-by : (f : Workflow) (ds : List Done) (r : Last) (c : Call) (v : Verdict) → admission f r c ≡ v → Inv f ds r → Runs f c (given r c) (course-by v f r c)
 unfolding course-by conclude counted

@@ -1,13 +1,15 @@
 // A call. The definition is in specs/.
+mod drive;
+
 use graph::Verdict;
 use graph::held;
 use model::State;
-use model::code;
 use model::event::Event;
 use model::event::Limits;
 use model::event::Mappings;
 use workflow::Ceilings;
 use workflow::NUMBERS;
+use workflow::code;
 ghost use mathlib.Core.Path.{_≡_};
 ghost use Prim.Native.Nat.{_+_};
 ghost use lib.Dec.{eqb};

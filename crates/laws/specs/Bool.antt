@@ -1,6 +1,7 @@
 -- Tests and cases.
-use mathlib.Core.Path.{_≡_, refl, sym}
-use mathlib.Core.Bool.{Bool, true, false, false≢true}
+use mathlib.Core.Path.{_≡_, refl, sym, _∙_}
+use mathlib.Core.Bool.{Bool, true, false, not, _&&_, _||_, false≢true}
+use borrow.Author.Tests.{not-true, not-false}
 
 infix 20 if_then_else_
 unfoldable pub if_then_else_ : {A : Type 0} → Bool → A → A → A
@@ -37,6 +38,42 @@ pub neither : (a b : Bool) → a or b ≡ false → (a ≡ false) × (b ≡ fals
 unfolding _or_
 neither true b e = absurd (false≢true (sym e))
 neither false b e = (refl, e)
+
+-- With what changes nothing.
+pub and-true : (a : Bool) → a ≡ a and true
+unfolding _and_
+and-true true = refl
+and-true false = refl
+
+pub or-false : (a : Bool) → a ≡ a or false
+unfolding _or_
+or-false true = refl
+or-false false = refl
+
+-- The code's `&` and `|` are strict, and group from the left.
+pub strict-and : (a b : Bool) → a and b ≡ (a && b)
+unfolding _and_
+strict-and true b = refl
+strict-and false b = refl
+
+pub strict-or : (a b : Bool) → a or b ≡ (a || b)
+unfolding _or_
+strict-or true b = refl
+strict-or false b = refl
+
+pub and-left : (a b c : Bool) → a and (b and c) ≡ (a and b) and c
+unfolding _and_
+and-left true b c = refl
+and-left false b c = refl
+
+-- A test b of a part a: it passes and the rest x is left, or it ends there.
+pub passed : {a b : Bool} → b ≡ a → not b ≡ false → (x : Bool) → (a and x) ≡ x
+unfolding _and_
+passed {a} {b} e h x = let t : a ≡ true = sym e ∙ not-false b h in rw t
+
+pub stopped : {a b : Bool} → b ≡ a → not b ≡ true → (x : Bool) → false ≡ (a and x)
+unfolding _and_
+stopped {a} {b} e h x = let t : a ≡ false = sym e ∙ not-true b h in rw t
 
 -- A conditional whose test is known.
 pub if-true : {A : Type 0} (b : Bool) (x y : A) → b ≡ true → (if b then x else y) ≡ x

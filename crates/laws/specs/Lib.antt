@@ -5,6 +5,7 @@ pub mod Every
 pub mod In
 pub mod All
 pub mod Shift
+pub mod Listing
 pub mod Settle
 pub mod Arrays
 pub mod Tests

@@ -4,7 +4,8 @@ use mathlib.Core.List.{List, [], _∷_, _++_}
 use Prim.Native.Nat.{ℕ, zero, suc, _≤_, _<_, _+_}
 use native.Mathlib.Omega.{arith}
 use native.Mathlib.Numerals.{add-one}
-use lib.ListN.{length, getD, set, length-set}
+use lib.ListN.{length, getD, set, take, drop, length-set}
+use lib.Seq.{take-append-le, drop-append-le}
 
 -- xs with the element at i left out
 unfoldable pub remove-at : {A : Type 0} → ℕ → List A → List A
@@ -56,3 +57,19 @@ module _ {A : Type 0} {z : A} {l₀ : List A} {start n : ℕ} {l : List A} {k : 
       let q : k ≡ m = omega arith in
       let g : length l ≡ suc m = omega arith in
       sym (inv .same ∙ rw (q, last z l m g))
+
+-- An array that uses its first places.
+module _ {A : Type 0} (z : A) where
+  pub take-without : (xs : List A) (i k : ℕ) → i ≤ k → k < length xs → take k (without z xs i) ≡ remove-at i (take (suc k) xs)
+  unfolding without remove-at
+  take-without [] i k h g = absurd (omega arith)
+  take-without (x ∷ xs) zero k h g = take-append-le k xs (z ∷ []) (omega arith)
+  take-without (x ∷ xs) (suc i) zero h g = absurd (omega arith)
+  take-without (x ∷ xs) (suc i) (suc k) h g = ap {B = List A} (λ r. x ∷ r) (take-without xs i k (omega arith) (omega arith))
+
+  pub drop-without : (xs : List A) (i k : ℕ) → i ≤ k → k < length xs → drop k (without z xs i) ≡ drop (suc k) xs ++ (z ∷ [])
+  unfolding without remove-at
+  drop-without [] i k h g = absurd (omega arith)
+  drop-without (x ∷ xs) zero k h g = drop-append-le k xs (z ∷ []) (omega arith)
+  drop-without (x ∷ xs) (suc i) zero h g = absurd (omega arith)
+  drop-without (x ∷ xs) (suc i) (suc k) h g = drop-without xs i k (omega arith) (omega arith)

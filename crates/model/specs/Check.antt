@@ -5,11 +5,12 @@ use lib.ListN.{getD, drop}
 use lib.Dec.{ltb, leb, eqb}
 use Rattle.laws.specs.Bool.{if_then_else_, _and_, _or_}
 use Rattle.laws.specs.Every.{every, below}
+use Rattle.workflow.specs.Code.{none, largest, store, node-room, activity, await-signal, running, waiting, needs-intervention, run-completed, run-failed, scheduled, unknown, stuck}
 use Rattle.workflow.specs.declared.Node.{Node}
 use Rattle.workflow.specs.declared.Found.{Found}
 use Rattle.workflow.specs.declared.Found.the-variants.{At, Nothing}
 use Rattle.workflow.specs.View.{Workflow}
-use Rattle.workflow.specs.Lookup.{node-of, limit-of}
+use Rattle.workflow.specs.Lookup.{is-0-2, node-of, limit-of}
 use Rattle.model.specs.declared.Output.{Output}
 use Rattle.model.specs.declared.Kept.{Kept}
 use Rattle.model.specs.declared.BufferedSignal.{BufferedSignal}
@@ -19,7 +20,6 @@ use Rattle.model.specs.declared.NodeResult.{NodeResult}
 use Rattle.model.specs.declared.Position.{Position}
 use Rattle.model.specs.declared.InvocationState.{InvocationState}
 use Rattle.model.specs.declared.State.{State}
-use Rattle.model.specs.Code.{none, largest, store, activity, await-signal, running, waiting, needs-intervention, run-completed, run-failed, scheduled, unknown, stuck}
 use Rattle.model.specs.Record.{no-node-result, visits-of, streak-of, is-terminal}
 use Rattle.model.specs.Store.{stored}
 
@@ -93,7 +93,7 @@ owned-by i p a =
 
 -- A running state has a scheduled invocation, one that needs intervention an unknown or, in format 2, a stuck one.
 abbrev pub phase-fits : Workflow → (status phase : ℕ) → Bool
-phase-fits f k p = eqb k running and eqb p scheduled or eqb k needs-intervention and (eqb p unknown or eqb p stuck and eqb (f .format) 2)
+phase-fits f k p = eqb k running and eqb p scheduled or eqb k needs-intervention and (eqb p unknown or eqb p stuck and is-0-2 f)
 
 abbrev pub waits : Node → State → Bool
 waits x s = eqb (x .kind) await-signal and is-no-invocation (s .invocation)
@@ -112,4 +112,4 @@ stands f s = if is-terminal (s .status) then terminal-fits s else live-fits f s
 
 -- THE RUN CHECK.
 unfoldable pub consistent : Workflow → State → Bool
-consistent f s = counters-fit s and store-fits s and below 64 (slot-fits f s) and stands f s
+consistent f s = counters-fit s and store-fits s and below node-room (slot-fits f s) and stands f s

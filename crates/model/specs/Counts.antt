@@ -12,8 +12,8 @@ use borrow.Author.Tests.{lt-ltb}
 use Rattle.laws.specs.Bool.{if_then_else_, _and_, if-true, if-false}
 use Rattle.laws.specs.Shift.{remove-at, without}
 use Rattle.laws.specs.All.{All}
+use Rattle.workflow.specs.Code.{note-ignored, note-stale, note-not-applicable}
 use Rattle.workflow.specs.View.{Workflow}
-use Rattle.model.specs.Code.{note-ignored, note-stale, note-not-applicable}
 use Rattle.model.specs.Record.{no-signal, no-visits, set-signals}
 use Rattle.model.specs.Store.{removed, appended}
 use Rattle.model.specs.declared.BufferedSignal.{BufferedSignal}

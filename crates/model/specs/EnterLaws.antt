@@ -3,6 +3,7 @@ use mathlib.Core.Path.{_≡_, sym, _∙_}
 use Prim.Native.Nat.{ℕ, _+_, _≤_, _<_}
 use borrow.Author.Tests.{le-leb, lt-leb, ne-eqb}
 use Rattle.laws.specs.Bool.{if_then_else_}
+use Rattle.workflow.specs.Code.{activity, await-signal, complete, waiting, run-completed, field-params, field-output, visits-exceeded, activations-exceeded}
 use Rattle.workflow.specs.View.{Workflow}
 use Rattle.workflow.specs.Lookup.{node-slots, node-of}
 use Rattle.workflow.specs.declared.Node.{Node}
@@ -15,7 +16,6 @@ use Rattle.model.specs.declared.event.Mappings.{Mappings}
 use Rattle.model.specs.declared.event.Evaluated.{Evaluated}
 use Rattle.model.specs.declared.moves.Next.the-variants.{Rest, Consume}
 use Rattle.model.specs.declared.moves.Move.{Move}
-use Rattle.model.specs.Code.{activity, await-signal, complete, waiting, run-completed, field-params, field-output, visits-exceeded, activations-exceeded}
 use Rattle.model.specs.Record.{no-invocation, visits-of, with-visits, placed, finished}
 use Rattle.model.specs.Step.{still, reading, error, position, answer, evaluate, terminate, schedule, enter-activity, arrive, enter}
 

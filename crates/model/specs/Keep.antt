@@ -10,6 +10,7 @@ use lib.Seq.{getD-set-same}
 use lib.Dec.{eqb}
 use borrow.Author.Tests.{leb-false, eqb-true, ne-eqb, not-true, not-false}
 use Rattle.laws.specs.Bool.{if_then_else_, _and_, both, join, if-true, if-false, split, either}
+use Rattle.workflow.specs.Code.{none, exhausted, scheduled, unknown, stuck, run-started, signal-received, activity-result, end-routed, end-unrouted, end-overflow, end-ignored}
 use Rattle.workflow.specs.declared.Found.{Found}
 use Rattle.workflow.specs.declared.Found.the-variants.{At, Nothing}
 use Rattle.workflow.specs.View.{Workflow}
@@ -32,7 +33,6 @@ use Rattle.model.specs.declared.answer.Ending.{Ending}
 use Rattle.model.specs.declared.moves.Next.{Next}
 use Rattle.model.specs.declared.moves.Next.the-variants.{Rest, Enter, Take, Consume, Wants, Refuse}
 use Rattle.model.specs.declared.moves.Move.{Move}
-use Rattle.model.specs.Code.{none, exhausted, scheduled, unknown, stuck, run-started, signal-received, activity-result, end-routed, end-unrouted, end-overflow, end-ignored}
 use Rattle.model.specs.Record.{no-signal, no-visits, visits-of, is-terminal, seen}
 use Rattle.model.specs.Store.{stored, signal-at, removed, appended}
 use Rattle.model.specs.Step.{no-ending, still, reading, counted, phased, arrival, terminate, evaluate, schedule, enter-activity, arrive, enter, follow-to, route-limited, route, take-by, take-signal, retry, complete-invocation, stick, fail-invocation, applies, on-signal, on-success, on-failure, on-unknown, on-result, resolve-fail, on-resolved, on-ended, react, apply}

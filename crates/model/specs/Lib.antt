@@ -1,11 +1,9 @@
-pub mod Code
 pub mod Record
 pub mod Store
 pub mod Answers
 pub mod Step
 pub mod Check
 pub mod Counts
-pub mod TidyLists
 pub mod Tidy
 pub mod Cost
 pub mod Keep

@@ -1,11 +1,12 @@
 -- Between the step rules and their code: routing worked out from rows and numbers first, a retry's tests without a sum, and an event's tests over the invocation alone.
 use mathlib.Core.Path.{_≡_, refl, sym, ap, _∙_}
 use mathlib.Core.Bool.{Bool, true, false, not}
-use Prim.Native.Nat.{ℕ, _+_, _-_, _^_, _≤_, _<_}
+use Prim.Native.Nat.{ℕ, _+_, _-_, _≤_, _<_}
 use native.Mathlib.Omega.{arith}
 use borrow.Author.Tests.{ltb-true, ltb-false, lt-ltb, le-ltb, lt-leb}
 use lib.Dec.{ltb, leb, eqb}
 use Rattle.laws.specs.Bool.{if_then_else_, _and_, split, if-true, if-false}
+use Rattle.workflow.specs.Code.{none, largest-attempt, exhausted, scheduled, resolve-complete, resolve-retry, note-exhausted, note-not-applicable, mismatch, not-unknown, undeclared}
 use Rattle.workflow.specs.declared.Found.{Found}
 use Rattle.workflow.specs.declared.Found.the-variants.{At, Nothing}
 use Rattle.workflow.specs.View.{Workflow}
@@ -21,7 +22,6 @@ use Rattle.model.specs.declared.machine.Way.{Way}
 use Rattle.model.specs.declared.moves.Next.{Next}
 use Rattle.model.specs.declared.moves.Next.the-variants.{Rest, Enter, Refuse}
 use Rattle.model.specs.declared.moves.Move.{Move}
-use Rattle.model.specs.Code.{none, exhausted, scheduled, resolve-complete, resolve-retry, note-exhausted, note-not-applicable, mismatch, not-unknown, undeclared}
 use Rattle.model.specs.Record.{no-streak, streak-of, with-streak, with-result}
 use Rattle.model.specs.Step.{no-note, no-ending, still, noting, follow-to, route-limited, route, retry, complete-invocation, action-at, resolve-fail, on-resolved}
 
@@ -91,11 +91,11 @@ above a b d h =
     (λ e. let g = ltb-false a (b + d) e in le-ltb (a - b) d (omega arith) ∙ sym e)
 
 -- The last attempt that there is a number for.
-pub last-attempt : (k : ℕ) → 2 ^ 32 - 1 ≤ k → ltb (2 ^ 32 - 1) (k + 1) ≡ true
-last-attempt k h = lt-ltb (2 ^ 32 - 1) (k + 1) (omega arith)
+pub last-attempt : (k : ℕ) → largest-attempt ≤ k → ltb (largest-attempt) (k + 1) ≡ true
+last-attempt k h = lt-ltb (largest-attempt) (k + 1) (omega arith)
 
-pub more-attempts : (k : ℕ) → k < 2 ^ 32 - 1 → ltb (2 ^ 32 - 1) (k + 1) ≡ false
-more-attempts k h = le-ltb (2 ^ 32 - 1) (k + 1) (omega arith)
+pub more-attempts : (k : ℕ) → k < largest-attempt → ltb (largest-attempt) (k + 1) ≡ false
+more-attempts k h = le-ltb (largest-attempt) (k + 1) (omega arith)
 
 -- A time that is not late.
 pub not-above : {b : Bool} (a n : ℕ) → b ≡ ltb a n → b ≡ false → n ≤ a

@@ -5,7 +5,7 @@ use Prim.Native.Nat.{ℕ, max}
 use lib.ListN.{getD, set, replicate}
 use lib.Dec.{eqb}
 use Rattle.laws.specs.Bool.{_or_}
-use Rattle.model.specs.Code.{none, running, run-completed, run-failed}
+use Rattle.workflow.specs.Code.{none, store, node-room, running, run-completed, run-failed}
 use Rattle.model.specs.declared.Output.{Output}
 use Rattle.model.specs.declared.Kept.{Kept}
 use Rattle.model.specs.declared.BufferedSignal.{BufferedSignal}
@@ -42,7 +42,7 @@ no-result = record { output = Output.Nothing }
 -- The record that a start makes, before its start node is entered.
 abbrev pub fresh : (input : ℕ) → State
 fresh x =
-    record { signals = replicate 64 no-signal; visits = replicate 64 no-visits; streaks = replicate 64 no-streak; results = replicate 64 no-node-result; «last_sequence» = 0; «last_accepted_at» = 0; «signal_count» = 0; status = running; input = x; activations = 0; position = no-position; invocation = no-invocation; result = no-result }
+    record { signals = replicate store no-signal; visits = replicate node-room no-visits; streaks = replicate node-room no-streak; results = replicate node-room no-node-result; «last_sequence» = 0; «last_accepted_at» = 0; «signal_count» = 0; status = running; input = x; activations = 0; position = no-position; invocation = no-invocation; result = no-result }
 
 -- Readers.
 abbrev pub visits-of : State → (node : ℕ) → Visits

@@ -2,22 +2,22 @@
 use mathlib.Core.Path.{_≡_, refl, sym, _∙_, ap}
 use mathlib.Core.Bool.{Bool, true, false, not, _&&_, _||_}
 use mathlib.Core.List.{List, [], _∷_}
-use Prim.Native.Nat.{ℕ, zero, suc, _+_, _≤_}
+use Prim.Native.Nat.{ℕ, zero, suc, _≤_}
 use native.Mathlib.Numerals.{add-one}
 use native.Mathlib.Omega.{arith}
 use borrow.Author.Tests.{lt-ltb, le-ltb, le-leb}
 use lib.ListN.{length, getD, take, drop}
 use lib.Seq.{take-all}
 use lib.Dec.{ltb, leb, eqb, leb·suc-zero, leb·suc-suc, eqb·zero-suc}
-use Rattle.laws.specs.Bool.{if_then_else_, _and_, _or_, split, if-true, if-false}
-use Rattle.laws.specs.First.{first, Seek}
+use Rattle.laws.specs.Bool.{if_then_else_, _and_, _or_, and-true, and-left, if-true, if-false}
+use Rattle.laws.specs.First.{Seek}
 use Rattle.laws.specs.Rows.{rows, span}
-use Rattle.laws.specs.Every.{every, below}
+use Rattle.laws.specs.Every.{every, below, every-then}
 use Rattle.laws.specs.Arrays.{past-getD}
+use Rattle.workflow.specs.Code.{largest, store, activity, await-signal, waiting, stuck}
 use Rattle.workflow.specs.declared.Node.{Node}
 use Rattle.workflow.specs.View.{Workflow}
 use Rattle.workflow.specs.Lookup.{node-of}
-use Rattle.model.specs.Code.{largest, store, activity, await-signal, waiting, stuck}
 use Rattle.model.specs.Record.{no-signal, no-node-result, no-visits, visits-of, streak-of, is-terminal}
 use Rattle.model.specs.Store.{stored, signal-at}
 use Rattle.model.specs.Check.{signal-zero, result-unused, result-fits, result-zero, streak-fits, streak-zero, slot-fits, is-no-position, keeps-error, is-no-invocation, result-of-status, owned-by, phase-fits, stands, consistent}
@@ -33,22 +33,6 @@ use Rattle.model.specs.declared.InvocationState.{InvocationState}
 use Rattle.model.specs.declared.RunResult.{RunResult}
 use Rattle.model.specs.declared.event.Mappings.{Mappings}
 use Rattle.model.specs.declared.State.{State}
-
--- THE TESTS of the code: `&` and `|` are strict, and group from the left.
-pub strict-and : (a b : Bool) → a and b ≡ (a && b)
-unfolding _and_
-strict-and true b = refl
-strict-and false b = refl
-
-pub strict-or : (a b : Bool) → a or b ≡ (a || b)
-unfolding _or_
-strict-or true b = refl
-strict-or false b = refl
-
-pub and-left : (a b c : Bool) → a and (b and c) ≡ (a and b) and c
-unfolding _and_
-and-left true b c = refl
-and-left false b c = refl
 
 -- THE SLOTS at one place. A stored signal, or an unused slot of the store.
 unfoldable pub signal-fits : (count place : ℕ) → BufferedSignal → Bool
@@ -101,12 +85,6 @@ every-both : {A : Type 0} (p q : A → Bool) (xs : List A) → every (λ x. p x 
 unfolding every _and_
 every-both p q [] = refl
 every-both p q (x ∷ xs) = rw (every-both p q xs) (regrouped (p x) (q x) (every p xs) (every q xs))
-
--- As a search for one that does not, with e behind it.
-every-then : {A : Type 0} (p : A → Bool) (e : Bool) (i : ℕ) (xs : List A) → first (λ x. not (p x)) (λ _ _. false) e i xs ≡ every p xs and e
-unfolding every first _and_ if_then_else_
-every-then p e i [] = refl
-every-then p e i (x ∷ xs) = split (p x) (λ h. rw h (every-then p e (i + 1) xs)) (λ h. rw h)
 
 -- The loop at place i: what is left of the check is the places from i on, and where the run stands.
 abbrev pub Places : Workflow → State → ℕ → Type 0
@@ -183,11 +161,6 @@ module _ (f : Workflow) (s : State) where
 abbrev pub answers-fit : Mappings → Bool
 answers-fit m = every (λ x. in-range 1 3 (x .kind)) (take (m .count) (m .answers))
 
-last-true : (b : Bool) → b ≡ b and true
-unfolding _and_
-last-true true = refl
-last-true false = refl
-
 two-pass : {A : Type 0} (p : A → Bool) (d : A) (k : ℕ) (xs : List A) → length xs ≡ 2 → ((ltb k 1 || p (getD xs 0 d)) && (ltb k 2 || p (getD xs 1 d))) ≡ every p (take k xs)
 unfolding every _and_
 two-pass p d k [] h = absurd (omega arith)
@@ -196,7 +169,7 @@ two-pass p d zero (x ∷ y ∷ []) h = refl
 two-pass p d (suc zero) (x ∷ y ∷ []) h = refl
 two-pass p d (suc (suc k)) (x ∷ y ∷ []) h =
     simp (le-ltb (suc (suc k)) 1 (omega arith), le-ltb (suc (suc k)) 2 (omega arith))
-    (ap (λ b. p x and b) (last-true (p y)) ∙ sym (ap (every p) (take-all (suc (suc k)) (x ∷ y ∷ []) (omega arith))))
+    (ap (λ b. p x and b) (and-true (p y)) ∙ sym (ap (every p) (take-all (suc (suc k)) (x ∷ y ∷ []) (omega arith))))
 two-pass p d k (x ∷ y ∷ z ∷ xs) h = absurd (omega arith)
 
 pub answers-two : (m : Mappings) → length (m .answers) ≡ 2 → ((ltb (m .count) 1 || in-range 1 3 (getD (m .answers) 0 no-mapping .kind)) && (ltb (m .count) 2 || in-range 1 3 (getD (m .answers) 1 no-mapping .kind))) ≡ answers-fit m

@@ -1,16 +1,16 @@
 -- The step rules of document 01, as moves: each takes the run record and hands the next one back, with at most one note, one ending and one order.
 use mathlib.Core.Bool.{Bool, true, false, not}
-use mathlib.Core.List.{List, [], _∷_}
-use Prim.Native.Nat.{ℕ, _+_, _-_, _^_}
-use lib.ListN.{getD, set, take}
+use Prim.Native.Nat.{ℕ, _+_}
+use lib.ListN.{getD}
 use lib.Dec.{ltb, leb, eqb}
 use Rattle.laws.specs.Bool.{if_then_else_, _and_, _or_}
+use Rattle.workflow.specs.Code.{none, largest, largest-attempt, store, ok, received, failed, exhausted, activity, await-signal, complete, repeatable, running, waiting, needs-intervention, run-completed, run-failed, scheduled, unknown, stuck, run-started, signal-received, activity-result, invocation-resolved, success, failure, resolve-complete, resolve-retry, value, fault, field-input, field-params, field-output, visits-exceeded, activations-exceeded, undeclared-outcome, attempts-exhausted, activity-failed, note-ignored, note-stale, note-not-applicable, note-overflow, note-unrouted, note-unknown, note-stuck, note-retry, note-exhausted, mismatch, not-unknown, undeclared, end-routed, end-unrouted, end-overflow, end-ignored}
 use Rattle.workflow.specs.declared.Node.{Node}
 use Rattle.workflow.specs.declared.Action.{Action}
 use Rattle.workflow.specs.declared.Found.{Found}
 use Rattle.workflow.specs.declared.Found.the-variants.{At, Nothing}
 use Rattle.workflow.specs.View.{Workflow}
-use Rattle.workflow.specs.Lookup.{found, node-slots, node-of, policy-of, route-of, limit-of, declares}
+use Rattle.workflow.specs.Lookup.{is-0-2, node-slots, node-of, policy-of, route-of, routed, limit-of, declares}
 use Rattle.model.specs.declared.ErrorInfo.{ErrorInfo}
 use Rattle.model.specs.declared.Output.{Output}
 use Rattle.model.specs.declared.Kept.{Kept}
@@ -29,7 +29,6 @@ use Rattle.model.specs.declared.answer.Ending.{Ending}
 use Rattle.model.specs.declared.moves.Next.{Next}
 use Rattle.model.specs.declared.moves.Next.the-variants.{Rest, Enter, Take, Consume, Wants, Refuse}
 use Rattle.model.specs.declared.moves.Move.{Move}
-use Rattle.model.specs.Code.{none, largest, store, ok, received, failed, exhausted, activity, await-signal, complete, running, waiting, needs-intervention, run-completed, run-failed, scheduled, unknown, stuck, run-started, signal-received, activity-result, invocation-resolved, success, failure, resolve-complete, resolve-retry, value, fault, field-input, field-params, field-output, visits-exceeded, activations-exceeded, undeclared-outcome, attempts-exhausted, activity-failed, note-ignored, note-stale, note-not-applicable, note-overflow, note-unrouted, note-unknown, note-stuck, note-retry, note-exhausted, mismatch, not-unknown, undeclared, end-routed, end-unrouted, end-overflow, end-ignored}
 use Rattle.model.specs.Record.{no-streak, no-invocation, visits-of, streak-of, with-visits, with-streak, with-result, is-terminal, seen, placed, finished}
 use Rattle.model.specs.Store.{appended}
 
@@ -103,13 +102,6 @@ arrival e = record { sequence = e .sequence; «event_id» = e .«event_id»; sig
 
 -- THE RULES, for one sheet.
 module _ (f : Workflow) where
-  -- Format 2 reserves exhausted and parks stuck steps.
-  abbrev pub is-0-2 : Bool
-  is-0-2 = eqb (f .format) 2
-
-  abbrev pub routed : (node outcome : ℕ) → Bool
-  routed n o = found (route-of f n o)
-
   -- The run fails.
   unfoldable pub terminate : State → ErrorInfo → Move
   terminate s e = still (finished s run-failed (record { output = Output.Error e })) Rest
@@ -187,7 +179,7 @@ module _ (f : Workflow) where
 
   -- The route of a signal's outcome: none for exhausted in format 2.
   abbrev pub signal-route : (node outcome : ℕ) → Found
-  signal-route n o = if is-0-2 and eqb o exhausted then Nothing else route-of f n o
+  signal-route n o = if is-0-2 f and eqb o exhausted then Nothing else route-of f n o
 
   -- A signal is taken where the run waits: it routes and ends there; without a routed outcome it ends there too, the run goes on waiting, and what comes after is missed.
   unfoldable pub take-by : Found → State → BufferedSignal → (missed : Next) → Move
@@ -202,7 +194,7 @@ module _ (f : Workflow) where
   retry s d =
       let i = s .invocation in
       if ltb largest (planned s d) then still s (Refuse 27) else
-      if ltb (2 ^ 32 - 1) (i .attempt + 1) then still s (Refuse 27) else
+      if ltb largest-attempt (i .attempt + 1) then still s (Refuse 27) else
       noting note-retry (s .position .node) (i .attempt + 1) 0 0
       (ordering (Order.Retry (record { «not_before» = planned s d; node = i .node; visit = i .visit; attempt = i .attempt + 1 }))
       (still (placed s running (s .position) (phased i scheduled (i .attempt + 1) Kept.Nothing)) Rest))
@@ -222,8 +214,8 @@ module _ (f : Workflow) where
   unfoldable pub fail-invocation : State → (code detail : ℕ) → (may-park : Bool) → Move
   fail-invocation s k d p =
       let e = error k (s .position .node) d in
-      if routed (s .position .node) failed then complete-invocation s failed (Output.Error e) else
-      if p and is-0-2 then stick s e else
+      if routed f (s .position .node) failed then complete-invocation s failed (Output.Error e) else
+      if p and is-0-2 f then stick s e else
       terminate s e
 
   -- THE EVENTS.
@@ -270,7 +262,7 @@ module _ (f : Workflow) where
   unfoldable pub on-unknown : State → Event → Move
   on-unknown s e =
       let i = s .invocation in
-      if not (eqb (policy-of f (action-at s) .effect) 0)
+      if not (eqb (policy-of f (action-at s) .effect) repeatable)
       then noting note-unknown (s .position .node) (i .visit) (i .attempt) (e .status) (still (placed s needs-intervention (s .position) (phased i unknown (i .attempt) Kept.Nothing)) Rest) else
       if may-retry s e then retry s (delay-of e) else
       fail-invocation s attempts-exhausted (e .status) true

@@ -6,6 +6,7 @@ use lib.Dec.{ltb, eqb}
 use Rattle.laws.specs.Bool.{if_then_else_}
 use Rattle.laws.specs.First.{first}
 use Rattle.laws.specs.Shift.{without}
+use Rattle.workflow.specs.Code.{store}
 use Rattle.workflow.specs.declared.Found.{Found}
 use Rattle.workflow.specs.declared.Found.the-variants.{At, Nothing}
 use Rattle.model.specs.Record.{no-signal, set-signals}
@@ -25,8 +26,8 @@ signal-at s i = getD (s .signals) i no-signal
 
 -- The signal stored at a place goes, and the later ones move down.
 unfoldable pub removed : State → (place : ℕ) → State
-removed s i = if ltb i (min 64 (s .«signal_count»)) then set-signals s (without no-signal (s .signals) i) (s .«signal_count» - 1) else s
+removed s i = if ltb i (min store (s .«signal_count»)) then set-signals s (without no-signal (s .signals) i) (s .«signal_count» - 1) else s
 
 -- The signal is stored behind the others; a full store stays as it is.
 unfoldable pub appended : State → BufferedSignal → State
-appended s x = if ltb (s .«signal_count») 64 then set-signals s (set (s .signals) (s .«signal_count») x) (s .«signal_count» + 1) else s
+appended s x = if ltb (s .«signal_count») store then set-signals s (set (s .signals) (s .«signal_count») x) (s .«signal_count» + 1) else s

@@ -11,12 +11,15 @@ use lib.Seq.{getD-set-same, take-suc-set, drop-set-lt, drop-cons}
 use lib.Dec.{eqb, leb, ltb}
 use borrow.Author.Tests.{ltb-true, leb-true, leb-false, eqb-true, lt-ltb, le-leb, eq-eqb, ne-eqb, not-true, not-false}
 use Rattle.laws.specs.Bool.{if_then_else_, _and_, _or_, both, join, split, if-true, if-false, either}
-use Rattle.laws.specs.Every.{every}
-use Rattle.laws.specs.Shift.{without}
+use Rattle.laws.specs.Every.{every, every-append, every-remove}
+use Rattle.laws.specs.In.{below-at, at-below}
+use Rattle.laws.specs.Shift.{without, take-without, drop-without}
+use Rattle.laws.specs.Arrays.{Slots, slots-set, slots-none}
+use Rattle.workflow.specs.Code.{largest, node-room, exhausted, activity, waiting, running, needs-intervention, run-completed, run-failed, scheduled, unknown, stuck, run-started}
 use Rattle.workflow.specs.declared.Found.{Found}
 use Rattle.workflow.specs.declared.Found.the-variants.{At, Nothing}
 use Rattle.workflow.specs.View.{Workflow}
-use Rattle.workflow.specs.Lookup.{found, node-slots, node-of, route-of, limit-of, declares}
+use Rattle.workflow.specs.Lookup.{found, is-0-2, node-slots, node-of, route-of, routed, limit-of, declares}
 use Rattle.workflow.specs.Sound.{Sound}
 use Rattle.model.specs.declared.ErrorInfo.{ErrorInfo}
 use Rattle.model.specs.declared.Output.{Output}
@@ -34,13 +37,11 @@ use Rattle.model.specs.declared.answer.Params.{Params}
 use Rattle.model.specs.declared.moves.Next.{Next}
 use Rattle.model.specs.declared.moves.Next.the-variants.{Rest, Enter, Take, Consume, Wants, Refuse}
 use Rattle.model.specs.declared.moves.Move.{Move}
-use Rattle.model.specs.Code.{largest, exhausted, activity, waiting, running, needs-intervention, run-completed, run-failed, scheduled, unknown, stuck, run-started}
 use Rattle.model.specs.Record.{no-signal, no-visits, no-streak, no-node-result, no-invocation, fresh, visits-of, streak-of, is-terminal, set-signals, set-visits, set-results, set-streaks, with-streak, with-result, seen, placed, finished}
 use Rattle.model.specs.Store.{stored, removed, appended}
-use Rattle.model.specs.Step.{still, position, counted, phased, arrival, is-0-2, routed, terminate, evaluate, schedule, enter-activity, arrive, enter, follow-to, follow, route-limited, route, signal-outcome, take-by, take-signal, retry, complete-invocation, stick, fail-invocation, on-signal, named, on-success, on-failure, on-unknown, on-result, resolve-fail, on-resolved, on-ended, react}
+use Rattle.model.specs.Step.{still, position, counted, phased, arrival, terminate, evaluate, schedule, enter-activity, arrive, enter, follow-to, follow, route-limited, route, signal-outcome, take-by, take-signal, retry, complete-invocation, stick, fail-invocation, on-signal, named, on-success, on-failure, on-unknown, on-result, resolve-fail, on-resolved, on-ended, react}
 use Rattle.model.specs.Check.{signal-zero, result-unused, result-zero, result-fits, streak-zero, streak-fits, slot-fits, keeps-error, is-no-invocation, result-of-status, phase-fits, waits, works, stands, consistent}
 use Rattle.model.specs.Counts.{appended-room, removed-at, length-without}
-use Rattle.model.specs.TidyLists.{below-at, at-below, every-append, every-remove, take-without, drop-without, Slots, slots-set, slots-none}
 
 -- SMALL CASES
 -- A test over three arrays is a test over each.
@@ -116,9 +117,9 @@ pub record Tidy (f : Workflow) (signals : List BufferedSignal) (count : ℕ) (vi
   pub in-sequence : sequence ≤ largest
   pub in-time : accepted ≤ largest
   pub store : Held signals count
-  pub visit-slots : Slots (visits-fit f) no-visits visits
-  pub result-slots : Slots (its-result-fits f) no-node-result results
-  pub streak-slots : Slots (its-streak-fits f) no-streak streaks
+  pub visit-slots : Slots node-room (visits-fit f) no-visits visits
+  pub result-slots : Slots node-room (its-result-fits f) no-node-result results
+  pub streak-slots : Slots node-room (its-streak-fits f) no-streak streaks
 
 -- What comes after a signal that was taken without effect: for an arrival nothing, for a stored one the next of the store.
 pub data Missed : Next → Type 0 where
@@ -312,7 +313,7 @@ module _ (f : Workflow) where
     in-sheet : (a b : Bool) → a ≡ true → (if ltb n (f .node-count) then a else b) ≡ true
     in-sheet a b e = if-true _ _ _ (lt-ltb _ _ (on .inside)) ∙ e
 
-    keep-slots : {v : List Visits} {r : List NodeResult} {x : List Streak} (activations : ℕ) → Slots (visits-fit f) no-visits v → Slots (its-result-fits f) no-node-result r → Slots (its-streak-fits f) no-streak x → On (set-visits (set-results (set-streaks s x) r) v activations) n
+    keep-slots : {v : List Visits} {r : List NodeResult} {x : List Streak} (activations : ℕ) → Slots node-room (visits-fit f) no-visits v → Slots node-room (its-result-fits f) no-node-result r → Slots node-room (its-streak-fits f) no-streak x → On (set-visits (set-results (set-streaks s x) r) v activations) n
     keep-slots k a b c =
         record {
           tidy = record { in-sequence = on .tidy .in-sequence; in-time = on .tidy .in-time; store = on .tidy .store; visit-slots = a; result-slots = b; streak-slots = c };

@@ -12,7 +12,6 @@ use crate::answer::Note;
 use crate::answer::Order;
 use crate::answer::Params;
 use crate::answer::ScheduleActivity;
-use crate::code;
 use crate::event::Evaluated;
 use crate::event::Mappings;
 use crate::moves::Move;
@@ -21,7 +20,9 @@ use crate::moves::no_ending;
 use crate::moves::no_note;
 use crate::moves::still;
 use workflow::Found;
+use workflow::NODES;
 use workflow::NUMBERS;
+use workflow::code;
 ghost use mathlib.Core.Path.{_≡_};
 ghost use Prim.Native.Nat.{_+_, _<_};
 ghost use lib.ListN.{getD};
@@ -39,11 +40,11 @@ fn one_more(count: u32, limit: u32) -> u32
 }
 
 // The visits of a node; none past the slots there are.
-fn visits_at(visits: [Visits; 64], node: u32) -> Visits
+fn visits_at(visits: [Visits; NODES], node: u32) -> Visits
     ensures { λ r. ⌜ r ≡ getD visits node no-visits ⌝ }
 {
     let n = node as usize;
-    if n < 64 {
+    if n < NODES {
         return visits[n];
     }
     Visits { count: 0 }
@@ -256,7 +257,7 @@ impl State {
         ensures { λ r. ⌜ r ≡ enter (workflow (now (w .entry))) self node «come_from» mappings ⌝ }
     {
         let n = node as usize;
-        if workflow::capped(w[workflow::NODE_COUNT], workflow::NODES) <= n {
+        if workflow::capped(w[workflow::NODE_COUNT], NODES) <= n {
             return still(self, Next::Refuse(code::ASTRAY));
         }
         let visits = self.visits[n].count;

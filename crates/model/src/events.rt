@@ -7,7 +7,6 @@ use crate::State;
 use crate::answer::Ending;
 use crate::answer::Note;
 use crate::answer::Order;
-use crate::code;
 use crate::event::Event;
 use crate::is_terminal;
 use crate::later;
@@ -16,13 +15,14 @@ use crate::moves::Next;
 use crate::moves::no_ending;
 use crate::moves::no_note;
 use workflow::NUMBERS;
+use workflow::code;
 ghost use mathlib.Core.Path.{_≡_};
 ghost use mathlib.Core.Bool.{not};
 ghost use lib.Dec.{ltb, eqb};
 ghost use Rattle.laws.specs.Bool.{_and_};
 ghost use Rattle.workflow.specs.View.{Workflow, workflow};
 ghost use Rattle.workflow.specs.Lookup.{node-of, policy-of, declares};
-ghost use Rattle.model.specs.Code.{waiting};
+ghost use Rattle.workflow.specs.Code.{repeatable, waiting};
 ghost use Rattle.model.specs.Step.{success-outcome, on-signal, on-success, on-failure, on-unknown, on-result, on-resolved, on-ended, react, apply, resolve-fail};
 ghost use Rattle.model.specs.MachineLaws.{is-named, name-of, is-current, noted-only, completed, resolve};
 
@@ -117,10 +117,10 @@ fn may_retry_failure(w: &[u32; NUMBERS], action: u32, attempt: u32, retryable: b
 
 // What an effect other than 0 did can't be told without a person.
 fn needs_person(w: &[u32; NUMBERS], action: u32) -> bool
-    ensures { λ r. ⌜ r ≡ not (eqb (policy-of (workflow (now (w .entry))) action .effect) 0) ⌝ }
+    ensures { λ r. ⌜ r ≡ not (eqb (policy-of (workflow (now (w .entry))) action .effect) repeatable) ⌝ }
 {
     let policy = workflow::policy_of(w, action);
-    policy.effect != 0
+    policy.effect != code::REPEATABLE
 }
 
 impl State {
@@ -141,7 +141,7 @@ impl State {
             };
         }
         let n = self.signal_count as usize;
-        if 64 <= n {
+        if code::STORE <= n {
             return Move {
                 state: self,
                 next: Next::Rest,

@@ -1,6 +1,5 @@
 // The types of document 01 in the names of model.rs: the run record (`State`) with its accessors, events and answers.
 pub mod answer;
-pub mod code;
 pub mod enter;
 pub mod event;
 pub mod events;
@@ -9,9 +8,12 @@ pub mod moves;
 pub mod snapshot;
 
 use workflow::Found;
+use workflow::NODES;
+use workflow::code;
 ghost use mathlib.Core.Path.{_≡_};
 ghost use Prim.Native.Nat.{_<_, max};
 ghost use Rattle.laws.specs.Shift.{without};
+ghost use Rattle.workflow.specs.Code.{store};
 ghost use Rattle.model.specs.Record.{no-position, no-invocation, no-signal, fresh, visits-of, with-visits, streak-of, with-streak, with-result, seen, placed, finished, is-terminal};
 ghost use Rattle.model.specs.Answers.{output-numbers, kept-numbers};
 ghost use Rattle.model.specs.Store.{first-signal, signal-at, removed, appended};
@@ -85,10 +87,10 @@ pub struct InvocationState {
 
 // The run record. Signals are stored oldest first; visits, streaks and results are by node.
 pub struct State {
-    pub signals: [BufferedSignal; 64],
-    pub visits: [Visits; 64],
-    pub streaks: [Streak; 64],
-    pub results: [NodeResult; 64],
+    pub signals: [BufferedSignal; code::STORE],
+    pub visits: [Visits; NODES],
+    pub streaks: [Streak; NODES],
+    pub results: [NodeResult; NODES],
     pub last_sequence: u64,
     pub last_accepted_at: u64,
     pub signal_count: u32,
@@ -166,24 +168,24 @@ impl BufferedSignal {
 
 impl State {
     // How many signals are stored at most.
-    pub const STORE: u32 = 64;
+    pub const STORE: u32 = code::STORE as u32;
 
     // The record that a start makes, before its start node is entered.
     pub fn fresh(input: u32) -> State
         ensures { λ r. ⌜ r ≡ fresh input ⌝ }
     {
         State {
-            signals: [BufferedSignal::none(); 64],
-            visits: [Visits { count: 0 }; 64],
+            signals: [BufferedSignal::none(); code::STORE],
+            visits: [Visits { count: 0 }; NODES],
             streaks: [Streak {
                 outcome: 0,
                 count: 0,
-            }; 64],
+            }; NODES],
             results: [NodeResult {
                 visit: 0,
                 outcome: 0,
                 output: Output::Nothing,
-            }; 64],
+            }; NODES],
             last_sequence: 0,
             last_accepted_at: 0,
             signal_count: 0,
@@ -202,7 +204,7 @@ impl State {
         ensures { λ r. ⌜ r ≡ visits-of self node ⌝ }
     {
         let n = node as usize;
-        if n < 64 {
+        if n < NODES {
             return self.visits[n];
         }
         Visits { count: 0 }
@@ -214,7 +216,7 @@ impl State {
     {
         self.activations = activations;
         let n = node as usize;
-        if n < 64 {
+        if n < NODES {
             self.visits[n] = Visits { count: count };
         }
         self
@@ -224,7 +226,7 @@ impl State {
         ensures { λ r. ⌜ r ≡ streak-of self node ⌝ }
     {
         let n = node as usize;
-        if n < 64 {
+        if n < NODES {
             return self.streaks[n];
         }
         Streak {
@@ -237,7 +239,7 @@ impl State {
         ensures { λ r. ⌜ r ≡ with-streak self node streak ⌝ }
     {
         let n = node as usize;
-        if n < 64 {
+        if n < NODES {
             self.streaks[n] = streak;
         }
         self
@@ -247,7 +249,7 @@ impl State {
         ensures { λ r. ⌜ r ≡ with-result self node result ⌝ }
     {
         let n = node as usize;
-        if n < 64 {
+        if n < NODES {
             self.results[n] = result;
         }
         self
@@ -288,7 +290,7 @@ impl State {
     pub fn first_signal(self, signal: u32) -> Found
         ensures { λ r. ⌜ r ≡ first-signal self signal ⌝ }
     {
-        let n = workflow::capped(self.signal_count, 64);
+        let n = workflow::capped(self.signal_count, code::STORE);
         let mut i: usize = 0;
         while i < n {
             let x = self.signals[i];
@@ -304,7 +306,7 @@ impl State {
         ensures { λ r. ⌜ r ≡ signal-at self place ⌝ }
     {
         let n = place as usize;
-        if n < 64 {
+        if n < code::STORE {
             return self.signals[n];
         }
         BufferedSignal::none()
@@ -315,7 +317,7 @@ impl State {
         ensures { λ r. ⌜ r ≡ removed self place ⌝ }
     {
         let n = place as usize;
-        if workflow::capped(self.signal_count, 64) <= n {
+        if workflow::capped(self.signal_count, code::STORE) <= n {
             return self;
         }
         let old = self.signals;
@@ -330,7 +332,7 @@ impl State {
         ensures { λ r. ⌜ r ≡ appended self signal ⌝ }
     {
         let n = self.signal_count as usize;
-        if 64 <= n {
+        if code::STORE <= n {
             return self;
         }
         self.signals[n] = signal;
@@ -358,16 +360,22 @@ pub fn is_terminal(status: u32) -> bool
     status == code::RUN_FAILED
 }
 
-fn shifted(mut signals: [BufferedSignal; 64], start: usize) -> [BufferedSignal; 64]
-    requires { ⌜ start < 64 ⌝ }
+// The last place of the store.
+const LAST: usize = code::STORE - 1;
+
+fn shifted(
+    mut signals: [BufferedSignal; code::STORE],
+    start: usize,
+) -> [BufferedSignal; code::STORE]
+    requires { ⌜ start < store ⌝ }
     ensures { λ r. ⌜ r ≡ without no-signal signals start ⌝ }
 {
     let mut k = start;
-    while k < 63 {
+    while k < LAST {
         let x = signals[k + 1];
         signals[k] = x;
         k += 1;
     }
-    signals[63] = BufferedSignal::none();
+    signals[LAST] = BufferedSignal::none();
     signals
 }

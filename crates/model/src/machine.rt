@@ -11,20 +11,20 @@ use crate::answer::Ending;
 use crate::answer::Note;
 use crate::answer::Order;
 use crate::answer::RetryActivity;
-use crate::code;
 use crate::moves::Move;
 use crate::moves::Next;
 use crate::moves::no_ending;
 use crate::moves::no_note;
 use workflow::Found;
 use workflow::NUMBERS;
+use workflow::code;
 ghost use mathlib.Core.Path.{_≡_};
 ghost use Prim.Native.Nat.{_+_};
 ghost use lib.Dec.{ltb, eqb};
 ghost use Rattle.laws.specs.Bool.{_and_};
 ghost use Rattle.workflow.specs.View.{Workflow, workflow};
-ghost use Rattle.workflow.specs.Lookup.{found, route-of, limit-of};
-ghost use Rattle.model.specs.Code.{largest, exhausted};
+ghost use Rattle.workflow.specs.Lookup.{route-of, routed, limit-of};
+ghost use Rattle.workflow.specs.Code.{largest, format-0-2, exhausted};
 ghost use Rattle.model.specs.Step.{signal-outcome, signal-route, route, take-signal, retry, complete-invocation, stick, fail-invocation, terminate};
 ghost use Rattle.model.specs.MachineLaws.{way-of, next-of, count-of};
 
@@ -125,9 +125,9 @@ fn signal_outcome(outcome: u32) -> u32
 
 // The outcome is exhausted, which format 2 reserves.
 fn is_reserved(format: u32, outcome: u32) -> bool
-    ensures { λ r. ⌜ r ≡ (eqb format 2 and eqb outcome exhausted) ⌝ }
+    ensures { λ r. ⌜ r ≡ (eqb format format-0-2 and eqb outcome exhausted) ⌝ }
 {
-    if format == 2 {
+    if format == code::FORMAT_0_2 {
         return outcome == code::EXHAUSTED;
     }
     false
@@ -144,7 +144,7 @@ fn signal_route(w: &[u32; NUMBERS], node: u32, outcome: u32) -> Found
 }
 
 fn is_routed(w: &[u32; NUMBERS], node: u32, outcome: u32) -> bool
-    ensures { λ r. ⌜ r ≡ found (route-of (workflow (now (w .entry))) node outcome) ⌝ }
+    ensures { λ r. ⌜ r ≡ routed (workflow (now (w .entry))) node outcome ⌝ }
 {
     let target = route_of(w, node, outcome);
     match target {
@@ -155,10 +155,10 @@ fn is_routed(w: &[u32; NUMBERS], node: u32, outcome: u32) -> bool
 
 // Format 2 parks a result's failure.
 fn parks(may_park: bool, format: u32) -> bool
-    ensures { λ r. ⌜ r ≡ («may_park» and eqb format 2) ⌝ }
+    ensures { λ r. ⌜ r ≡ («may_park» and eqb format format-0-2) ⌝ }
 {
     if may_park {
-        return format == 2;
+        return format == code::FORMAT_0_2;
     }
     false
 }
@@ -181,7 +181,7 @@ impl State {
         let position = self.position;
         let node = position.node;
         let n = node as usize;
-        if workflow::capped(w[workflow::NODE_COUNT], 64) <= n {
+        if workflow::capped(w[workflow::NODE_COUNT], workflow::NODES) <= n {
             return Move {
                 state: self,
                 next: Next::Refuse(code::ASTRAY),

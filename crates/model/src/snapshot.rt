@@ -9,13 +9,13 @@ use crate::RunResult;
 use crate::State;
 use crate::Streak;
 use crate::Visits;
-use crate::code;
 use crate::event::Event;
 use crate::event::Mappings;
 use workflow::Found;
 use workflow::NODES;
 use workflow::NUMBERS;
 use workflow::Node;
+use workflow::code;
 ghost use mathlib.Core.Path.{_≡_};
 ghost use Rattle.workflow.specs.View.{workflow};
 ghost use Rattle.model.specs.Check.{result-unused, result-zero, result-fits, streak-fits, keeps-error, is-no-invocation, result-of-status, owned-by, phase-fits, consistent};
@@ -181,7 +181,8 @@ fn phase_fits(w: &[u32; NUMBERS], status: u32, phase: u32) -> bool
 {
     (status == code::RUNNING) & (phase == code::SCHEDULED)
         | (status == code::NEEDS_INTERVENTION)
-            & ((phase == code::UNKNOWN) | (phase == code::STUCK) & (w[workflow::FORMAT] == 2))
+            & ((phase == code::UNKNOWN)
+                | (phase == code::STUCK) & (w[workflow::FORMAT] == code::FORMAT_0_2))
 }
 
 // The node waits without an invocation, or works on its own.
@@ -294,7 +295,7 @@ pub fn event_fits(e: Event, m: Mappings) -> bool
     (e.sequence <= code::LARGEST)
         & (e.accepted_at <= code::LARGEST)
         & (m.count <= 2)
-        & in_range(1, 5, e.kind)
+        & in_range(code::RUN_STARTED, code::NOTED, e.kind)
         & ((e.kind != code::ACTIVITY_RESULT) | in_range(1, 4, e.status))
         & ((e.kind != code::INVOCATION_RESOLVED) | in_range(1, 3, e.resolution))
         & answers_fit(m)

@@ -5,6 +5,7 @@ use lib.ListN.{getD}
 use lib.Dec.{eqb}
 use Rattle.laws.specs.Bool.{_and_}
 use Rattle.laws.specs.First.{first, some}
+use Rattle.workflow.specs.Code.{format-0-2, node-room}
 use Rattle.workflow.specs.View.{Workflow, no-node, no-action}
 use Rattle.workflow.specs.declared.Node.{Node}
 use Rattle.workflow.specs.declared.Route.{Route}
@@ -19,9 +20,13 @@ abbrev pub found : Found → Bool
 found (At x) = true
 found Nothing = false
 
+-- Format 2, the 0.2 document.
+abbrev pub is-0-2 : Workflow → Bool
+is-0-2 f = eqb (f .format) format-0-2
+
 -- How many nodes there are, held to the room there is.
 abbrev pub node-slots : Workflow → ℕ
-node-slots f = min 64 (f .node-count)
+node-slots f = min node-room (f .node-count)
 
 -- The row of a node, and the policy of an action; zeros where the sheet lacks it.
 unfoldable pub node-of : Workflow → ℕ → Node
@@ -40,6 +45,9 @@ is-route n o x = are (x .node) (x .outcome) n o
 
 unfoldable pub route-of : Workflow → (node outcome : ℕ) → Found
 route-of f n o = first (is-route n o) (λ _ x. At (x .target)) Nothing 0 (f .routes)
+
+abbrev pub routed : Workflow → (node outcome : ℕ) → Bool
+routed f n o = found (route-of f n o)
 
 -- The loop limit on an outcome at a node.
 abbrev pub is-limit : (node outcome : ℕ) → Limit → Bool

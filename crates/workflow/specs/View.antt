@@ -7,6 +7,7 @@ use lib.Dec.{ltb, eqb}
 use Rattle.laws.specs.Bool.{if_then_else_, _and_}
 use Rattle.laws.specs.Rows.{span}
 use Rattle.laws.specs.Every.{every}
+use Rattle.workflow.specs.Code.{node-room, route-room, limit-room, action-room, declared-room}
 use Rattle.workflow.specs.declared.Node.{Node}
 use Rattle.workflow.specs.declared.Route.{Route}
 use Rattle.workflow.specs.declared.Limit.{Limit}
@@ -36,7 +37,7 @@ no-declared = record { action = 0; outcome = 0 }
 -- The row in slot i: one number of each column.
 unfoldable pub node-at : List ℕ → ℕ → Node
 node-at w i =
-    if ltb i 64 then record {
+    if ltb i node-room then record {
       kind = at w (9 + i);
       action = at w (73 + i);
       «has_params» = at w (137 + i);
@@ -47,16 +48,16 @@ node-at w i =
     } else no-node
 
 unfoldable pub route-at : List ℕ → ℕ → Route
-route-at w i = if ltb i 512 then record { node = at w (457 + i); outcome = at w (969 + i); target = at w (1481 + i) } else no-route
+route-at w i = if ltb i route-room then record { node = at w (457 + i); outcome = at w (969 + i); target = at w (1481 + i) } else no-route
 
 unfoldable pub limit-at : List ℕ → ℕ → Limit
-limit-at w i = if ltb i 512 then record { node = at w (1993 + i); outcome = at w (2505 + i); limit = at w (3017 + i) } else no-limit
+limit-at w i = if ltb i limit-room then record { node = at w (1993 + i); outcome = at w (2505 + i); limit = at w (3017 + i) } else no-limit
 
 unfoldable pub action-at : List ℕ → ℕ → Action
-action-at w i = if ltb i 64 then record { effect = at w (3529 + i); «max_attempts» = at w (3593 + i) } else no-action
+action-at w i = if ltb i action-room then record { effect = at w (3529 + i); «max_attempts» = at w (3593 + i) } else no-action
 
 unfoldable pub declared-at : List ℕ → ℕ → Declared
-declared-at w i = if ltb i 256 then record { action = at w (3657 + i); outcome = at w (3913 + i) } else no-declared
+declared-at w i = if ltb i declared-room then record { action = at w (3657 + i); outcome = at w (3913 + i) } else no-declared
 
 -- The numbers of a column at or past its count are zero.
 abbrev pub column-blank : List ℕ → (column room count : ℕ) → Bool
@@ -65,12 +66,12 @@ column-blank w a r k = every (λ x. eqb x 0) (span (at w) (a + min r k) (a + r))
 -- Every unused slot is zero.
 unfoldable pub blank : List ℕ → Bool
 blank w =
-    column-blank w 9 64 (at w 4) and column-blank w 73 64 (at w 4) and column-blank w 137 64 (at w 4) and column-blank w 201 64 (at w 4)
-    and column-blank w 265 64 (at w 4) and column-blank w 329 64 (at w 4) and column-blank w 393 64 (at w 4)
-    and column-blank w 457 512 (at w 5) and column-blank w 969 512 (at w 5) and column-blank w 1481 512 (at w 5)
-    and column-blank w 1993 512 (at w 6) and column-blank w 2505 512 (at w 6) and column-blank w 3017 512 (at w 6)
-    and column-blank w 3529 64 (at w 7) and column-blank w 3593 64 (at w 7)
-    and column-blank w 3657 256 (at w 8) and column-blank w 3913 256 (at w 8)
+    column-blank w 9 node-room (at w 4) and column-blank w 73 node-room (at w 4) and column-blank w 137 node-room (at w 4) and column-blank w 201 node-room (at w 4)
+    and column-blank w 265 node-room (at w 4) and column-blank w 329 node-room (at w 4) and column-blank w 393 node-room (at w 4)
+    and column-blank w 457 route-room (at w 5) and column-blank w 969 route-room (at w 5) and column-blank w 1481 route-room (at w 5)
+    and column-blank w 1993 limit-room (at w 6) and column-blank w 2505 limit-room (at w 6) and column-blank w 3017 limit-room (at w 6)
+    and column-blank w 3529 action-room (at w 7) and column-blank w 3593 action-room (at w 7)
+    and column-blank w 3657 declared-room (at w 8) and column-blank w 3913 declared-room (at w 8)
 
 -- A sheet. The counts are kept as they stand, so that one over its room can be told; the rows are those that are counted and have room; blank says that
 -- all other slots are zero.
@@ -103,10 +104,10 @@ workflow w =
       limit-count = at w 6;
       action-count = at w 7;
       declared-count = at w 8;
-      nodes = span (node-at w) 0 (min 64 (at w 4));
-      routes = span (route-at w) 0 (min 512 (at w 5));
-      limits = span (limit-at w) 0 (min 512 (at w 6));
-      actions = span (action-at w) 0 (min 64 (at w 7));
-      declared = span (declared-at w) 0 (min 256 (at w 8));
+      nodes = span (node-at w) 0 (min node-room (at w 4));
+      routes = span (route-at w) 0 (min route-room (at w 5));
+      limits = span (limit-at w) 0 (min limit-room (at w 6));
+      actions = span (action-at w) 0 (min action-room (at w 7));
+      declared = span (declared-at w) 0 (min declared-room (at w 8));
       blank = blank w;
     }

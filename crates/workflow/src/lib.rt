@@ -1,6 +1,7 @@
 // The sheet (`Workflow`), lent as one array of numbers with a column for each field of its rows, and the lookups in it.
+pub mod code;
+
 ghost use mathlib.Core.Path.{_≡_};
-ghost use mathlib.Core.Bool.{Bool};
 ghost use Prim.Native.Nat.{min};
 ghost use Rattle.workflow.specs.View.{workflow, no-node, node-at, route-at, limit-at, action-at, declared-at};
 ghost use Rattle.workflow.specs.Lookup.{node-of, policy-of, are, route-of, limit-of, declares};

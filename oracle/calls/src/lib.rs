@@ -323,7 +323,61 @@ impl State {
     }
 }
 
+/// The rows of a sheet, as they are written down in tests and cases.
+#[derive(Default)]
+pub struct Rows<'a> {
+    pub nodes: &'a [Node],
+    /// Node, outcome, target.
+    pub routes: &'a [(u32, u32, u32)],
+    /// Node, outcome, limit.
+    pub limits: &'a [(u32, u32, u32)],
+    /// Effect, maxAttempts.
+    pub actions: &'a [(u32, u32)],
+    /// Action, outcome.
+    pub declared: &'a [(u32, u32)],
+}
+
 impl Workflow {
+    /// A sheet of format 2 that starts at node 0.
+    pub fn of(max_visits_per_node: u32, max_activations: u32, rows: &Rows) -> Workflow {
+        let mut workflow = Workflow {
+            format: 2,
+            max_visits_per_node,
+            max_activations,
+            node_count: rows.nodes.len() as u32,
+            route_count: rows.routes.len() as u32,
+            limit_count: rows.limits.len() as u32,
+            action_count: rows.actions.len() as u32,
+            declared_count: rows.declared.len() as u32,
+            ..Workflow::empty()
+        };
+        workflow.nodes[..rows.nodes.len()].copy_from_slice(rows.nodes);
+        for (row, &(node, outcome, target)) in workflow.routes.iter_mut().zip(rows.routes) {
+            *row = Route {
+                node,
+                outcome,
+                target,
+            };
+        }
+        for (row, &(node, outcome, limit)) in workflow.limits.iter_mut().zip(rows.limits) {
+            *row = Limit {
+                node,
+                outcome,
+                limit,
+            };
+        }
+        for (row, &(effect, max_attempts)) in workflow.actions.iter_mut().zip(rows.actions) {
+            *row = Action {
+                effect,
+                max_attempts,
+            };
+        }
+        for (row, &(action, outcome)) in workflow.declared.iter_mut().zip(rows.declared) {
+            *row = Declared { action, outcome };
+        }
+        workflow
+    }
+
     pub fn empty() -> Workflow {
         Workflow {
             format: 0,

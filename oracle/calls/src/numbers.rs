@@ -157,6 +157,12 @@ fn output_numbers(output: &Output) -> [u64; 4] {
 
 pub fn record(state: &State) -> Vec<u64> {
     let mut w = vec![0; RECORD];
+    write_record(&mut w, state);
+    w
+}
+
+/// Writes a record over zeros.
+fn write_record(w: &mut [u64], state: &State) {
     w[..5].copy_from_slice(&[
         state.status.into(),
         state.input.into(),
@@ -200,7 +206,6 @@ pub fn record(state: &State) -> Vec<u64> {
         slot[1] = result.outcome.into();
         slot[2..].copy_from_slice(&output_numbers(&result.output));
     }
-    w
 }
 
 fn small(number: u64) -> Option<u32> {
@@ -332,11 +337,23 @@ pub fn call(call: &Call) -> Vec<u64> {
     w
 }
 
-/// None where a number is more than its field can hold, or the record's mark and the record part.
-pub fn call_of(workflow: Workflow, w: &[u64], state: Option<State>) -> Option<Call> {
-    if w.len() != CALL || flag(w[7])? != state.is_some() {
-        return None;
-    }
+/// What a call carries beside its sheet and its record.
+pub type Carried = (Ceilings, Limits, Event, Mappings);
+
+/// None where a number is more than its field can hold.
+pub fn carried_of(w: &[u64; CALL]) -> Option<Carried> {
+    flag(w[7])?;
+    let ceilings = Ceilings {
+        nodes: small(w[0])?,
+        visits: small(w[1])?,
+        activations: small(w[2])?,
+        attempts: small(w[3])?,
+    };
+    let limits = Limits {
+        microsteps: small(w[4])?,
+        commands: small(w[5])?,
+        operations: small(w[6])?,
+    };
     let event = Event {
         sequence: w[8],
         accepted_at: w[9],
@@ -372,23 +389,59 @@ pub fn call_of(workflow: Workflow, w: &[u64], state: Option<State>) -> Option<Ca
             operations: small(slot[4])?,
         };
     }
-    Some(Call {
-        ceilings: Ceilings {
-            nodes: small(w[0])?,
-            visits: small(w[1])?,
-            activations: small(w[2])?,
-            attempts: small(w[3])?,
-        },
-        limits: Limits {
-            microsteps: small(w[4])?,
-            commands: small(w[5])?,
-            operations: small(w[6])?,
-        },
+    Some((ceilings, limits, event, mappings))
+}
+
+/// None where a number is more than its field can hold, or the record's mark and the record part.
+pub fn call_of(workflow: Workflow, w: &[u64], state: Option<State>) -> Option<Call> {
+    let w: &[u64; CALL] = w.try_into().ok()?;
+    let (ceilings, limits, event, mappings) = carried_of(w)?;
+    (w[7] == u64::from(state.is_some())).then_some(Call {
+        ceilings,
+        limits,
         workflow,
         state,
         event,
         mappings,
     })
+}
+
+/// Writes a next record and what goes with it, over zeros: at most 65 notes and 65 endings.
+pub fn write_next(
+    w: &mut [u64],
+    state: &State,
+    order: Option<&Order>,
+    notes: &[Note],
+    endings: &[Ending],
+    microsteps: u32,
+) {
+    w[0] = 1;
+    w[1] = microsteps.into();
+    if let Some(order) = order {
+        w[2..11].copy_from_slice(&order_numbers(order));
+    }
+    w[11] = notes.len() as u64;
+    w[12] = endings.len() as u64;
+    for (i, note) in notes.iter().enumerate() {
+        let row = [note.code, note.node, note.a, note.b, note.c];
+        w[NOTE + 5 * i..][..5].copy_from_slice(&row.map(u64::from));
+    }
+    for (i, ending) in endings.iter().enumerate() {
+        w[ENDING + 2 * i] = ending.sequence;
+        w[ENDING + 2 * i + 1] = ending.ending.into();
+    }
+    write_record(&mut w[STATE..], state);
+}
+
+/// Writes a want, over zeros.
+pub fn write_want(w: &mut [u64], node: u32, field: u32, from: u32, state: &State) {
+    w[..4].copy_from_slice(&[2, node.into(), field.into(), from.into()]);
+    write_record(&mut w[STATE..], state);
+}
+
+/// Writes a refusal, over zeros.
+pub fn write_refusal(w: &mut [u64], number: u32, item: u32) {
+    w[..3].copy_from_slice(&[3, number.into(), item.into()]);
 }
 
 /// The numbers of an answer with at most one order, 65 notes and 65 endings; None for others.
@@ -405,35 +458,15 @@ pub fn answer(answer: &Answer) -> Option<Vec<u64>> {
             if orders.len() > 1 || notes.len() > LIST || endings.len() > LIST {
                 return None;
             }
-            w[0] = 1;
-            w[1] = (*microsteps).into();
-            if let Some(order) = orders.first() {
-                w[2..11].copy_from_slice(&order_numbers(order));
-            }
-            w[11] = notes.len() as u64;
-            w[12] = endings.len() as u64;
-            for (i, note) in notes.iter().enumerate() {
-                let row = [note.code, note.node, note.a, note.b, note.c];
-                w[NOTE + 5 * i..][..5].copy_from_slice(&row.map(u64::from));
-            }
-            for (i, ending) in endings.iter().enumerate() {
-                w[ENDING + 2 * i] = ending.sequence;
-                w[ENDING + 2 * i + 1] = ending.ending.into();
-            }
-            w[STATE..].copy_from_slice(&record(state));
+            write_next(&mut w, state, orders.first(), notes, endings, *microsteps);
         }
         Answer::Wants {
             node,
             field,
             from,
             state,
-        } => {
-            w[..4].copy_from_slice(&[2, (*node).into(), (*field).into(), (*from).into()]);
-            w[STATE..].copy_from_slice(&record(state));
-        }
-        Answer::Refused { number, item } => {
-            w[..3].copy_from_slice(&[3, (*number).into(), (*item).into()]);
-        }
+        } => write_want(&mut w, *node, *field, *from, state),
+        Answer::Refused { number, item } => write_refusal(&mut w, *number, *item),
     }
     Some(w)
 }

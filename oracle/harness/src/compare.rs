@@ -6,14 +6,14 @@ use std::sync::atomic::{AtomicUsize, Ordering};
 use std::sync::Mutex;
 
 use calls::{text, Answer, Call};
+use generator::rng::Rng;
+use generator::Generator;
 
 use crate::counts::Counts;
-use crate::history::Generator;
-use crate::plain_answer;
 use crate::shrink::shrink;
 
 /// Differences that are printed of one seed.
-const PRINTED: usize = 3;
+const PRINTED: u64 = 3;
 
 /// How many threads work.
 fn threads() -> usize {
@@ -34,77 +34,128 @@ fn each_seed(seeds: &[u64], work: impl Fn(u64) + Sync) {
     });
 }
 
-fn original_answer(call: &Call, fast: bool) -> Answer {
-    match fast {
-        true => original::answer_fast(call),
-        false => original::answer(call),
+/// An answer, or why there is none.
+type Tried = Result<Answer, String>;
+
+/// What is compared with the original.
+pub struct Side {
+    pub name: &'static str,
+    pub answer: fn(&Call) -> Tried,
+}
+
+pub const PLAIN: Side = Side {
+    name: "plain",
+    answer: |call| Ok(plain::answer(call)),
+};
+
+/// A call with some of its numbers changed: what the boundary says, or what differs.
+pub type Probe = fn(&mut Rng, &Call) -> Result<u32, String>;
+
+/// How the original is compared.
+pub struct Comparison {
+    pub sides: Vec<Side>,
+    pub probe: Option<Probe>,
+    pub generator: fn(u64) -> Generator,
+    /// Without the original's cross-checks.
+    pub fast: bool,
+    /// Ends a seed at its first difference, which is not made small.
+    pub first: bool,
+}
+
+impl Comparison {
+    fn original(&self, call: &Call) -> Tried {
+        let answer = || match self.fast {
+            true => original::answer_fast(call),
+            false => original::answer(call),
+        };
+        catch_unwind(AssertUnwindSafe(answer)).map_err(|cause| {
+            let said = cause.downcast_ref::<String>().cloned();
+            said.or_else(|| cause.downcast_ref::<&str>().map(|s| s.to_string()))
+                .unwrap_or_default()
+        })
     }
-}
 
-/// The original's answer, or why it gave none.
-fn tried(call: &Call, fast: bool) -> Result<Answer, String> {
-    catch_unwind(AssertUnwindSafe(|| original_answer(call, fast))).map_err(|cause| {
-        let said = cause.downcast_ref::<String>().cloned();
-        said.or_else(|| cause.downcast_ref::<&str>().map(|s| s.to_string()))
-            .unwrap_or_default()
-    })
-}
-
-fn differ(call: &Call, fast: bool) -> bool {
-    tried(call, fast) != Ok(plain_answer(call))
-}
-
-fn print_difference(place: &str, call: &Call, fast: bool) {
-    let small = shrink(call, |call| differ(call, fast));
-    println!("DIFFERENCE at {place}");
-    println!("  call     {}", text::print_call(&small));
-    match tried(&small, fast) {
-        Ok(answer) => println!("  original {}", text::print_answer(&answer)),
-        Err(why) => println!("  original gave up: {why}"),
+    fn differs(&self, call: &Call, original: &Tried) -> bool {
+        let agrees = |side: &Side| (side.answer)(call) == *original;
+        original.is_err() || !self.sides.iter().all(agrees)
     }
-    println!("  plain    {}", text::print_answer(&plain_answer(&small)));
-}
 
-/// The original against the plain reading. Prints what was reached.
-pub fn compare(seeds: &[u64], calls: u64, fast: bool) -> bool {
-    let total = Mutex::new((Counts::default(), 0u64));
-    each_seed(seeds, |seed| {
-        let (counts, differences) = compare_seed(seed, calls, fast);
-        let mut total = total.lock().unwrap();
-        println!(
-            "seed {seed}: {} calls, {differences} differences",
-            counts.calls
-        );
-        total.0.add(&counts);
-        total.1 += differences;
-    });
-    let (counts, differences) = total.into_inner().unwrap();
-    println!("{}", counts.table());
-    let missing = counts.missing();
-    for key in &missing {
-        println!("not reached: {key}");
+    fn print(&self, call: &Call) {
+        let small = match self.first {
+            true => call.clone(),
+            false => shrink(call, |call| self.differs(call, &self.original(call))),
+        };
+        println!("  {:8} {}", "call", text::print_call(&small));
+        let show = |name, answer: Tried| match answer {
+            Ok(answer) => println!("  {name:8} {}", text::print_answer(&answer)),
+            Err(why) => println!("  {name:8} {why}"),
+        };
+        show("original", self.original(&small));
+        for side in &self.sides {
+            show(side.name, (side.answer)(&small));
+        }
     }
-    println!("{} calls, {differences} differences", counts.calls);
-    differences == 0 && missing.is_empty()
-}
 
-fn compare_seed(seed: u64, calls: u64, fast: bool) -> (Counts, u64) {
-    let mut generator = Generator::new(seed);
-    let mut counts = Counts::default();
-    let mut differences = 0;
-    for n in 0..calls {
-        let call = generator.call();
-        let plain = plain_answer(&call);
-        if tried(&call, fast).as_ref() != Ok(&plain) {
-            differences += 1;
-            if differences <= PRINTED as u64 {
-                print_difference(&format!("seed {seed}, call {n}"), &call, fast);
+    fn seed(&self, seed: u64, calls: u64) -> (Counts, u64) {
+        let mut generator = (self.generator)(seed);
+        let mut rng = Rng::new(!seed);
+        let mut counts = Counts::default();
+        let mut differences = 0;
+        for n in 0..calls {
+            let call = generator.call();
+            let original = self.original(&call);
+            let differs = self.differs(&call, &original);
+            let probe = self.probe.filter(|_| !differs && rng.one_in(8));
+            let probed = probe.map(|probe| probe(&mut rng, &call));
+            if let Some(Ok(said)) = &probed {
+                counts.add_one(format!("boundary says {said}"));
+            }
+            let parted = probed.and_then(Result::err);
+            if differs || parted.is_some() {
+                differences += 1;
+            }
+            if differences <= PRINTED {
+                if differs {
+                    println!("DIFFERENCE at seed {seed}, call {n}");
+                    self.print(&call);
+                }
+                if let Some(why) = parted {
+                    println!("DIFFERENCE at seed {seed}, call {n}, changed: {why}");
+                }
+            }
+            if self.first && differences > 0 {
+                break;
+            }
+            if let Ok(answer) = original {
+                counts.count(&call, &answer);
+                generator.answered(&call, &answer);
             }
         }
-        counts.count(&call, &plain);
-        generator.answered(&call, &plain);
+        (counts, differences)
     }
-    (counts, differences)
+
+    /// Compares on so many calls a seed and prints what was reached.
+    pub fn run(&self, seeds: &[u64], calls: u64) -> bool {
+        let total = Mutex::new((Counts::default(), 0u64));
+        each_seed(seeds, |seed| {
+            let (counts, differences) = self.seed(seed, calls);
+            let mut total = total.lock().unwrap();
+            println!(
+                "seed {seed}: {} calls, {differences} differences",
+                counts.calls
+            );
+            total.0.add(&counts);
+            total.1 += differences;
+        });
+        let (counts, differences) = total.into_inner().unwrap();
+        println!("{}", counts.table());
+        let missing = counts.missing();
+        for key in &missing {
+            println!("not reached: {key}");
+        }
+        println!("{} calls, {differences} differences", counts.calls);
+        differences == 0 && (self.first || missing.is_empty())
+    }
 }
 
 /// After how many random calls each wrong reading parts from the original.
@@ -201,7 +252,7 @@ pub fn recorded(files: &[String]) -> Result<bool, String> {
             read += 1;
             for (who, found) in [
                 ("original", original::answer(&call)),
-                ("plain", plain_answer(&call)),
+                ("plain", plain::answer(&call)),
             ] {
                 if found != answer {
                     differences += 1;

@@ -14,8 +14,12 @@ impl Counts {
     pub fn count(&mut self, call: &Call, answer: &Answer) {
         self.calls += 1;
         for key in keys(call, answer) {
-            *self.reached.entry(key).or_default() += 1;
+            self.add_one(key);
         }
+    }
+
+    pub fn add_one(&mut self, key: String) {
+        *self.reached.entry(key).or_default() += 1;
     }
 
     pub fn add(&mut self, other: &Counts) {

@@ -1,50 +1,38 @@
-//! Comparison of the original with the plain reading of document 01, and what goes with it.
+//! Comparison of the original with the plain reading of document 01 and with the library, and what goes with it.
 //!
 //! ```text
 //! harness compare SEED.. [--calls N] [--fast]   the original against the plain reading on N calls a seed
+//! harness library SEED.. [--calls N] [--fast] [--first]
+//!                                               the original against the linked library, and the plain reading unless
+//!                                               fast, on histories of all lengths; and refused numbers
 //! harness wrong SEED.. [--calls N]              after how many calls each wrong reading is found
 //! harness joint                                 the cases of Joint A on both
 //! harness recorded FILE..                       recorded calls and answers, in text form, on both
 //! harness sample SEED                           writes crates/replay/stdin and oracle/sample/README.md
 //! harness read-sample                           reads crates/replay/stdin and compares it with both
-//! harness speed                                 the plain reading's time for Joint A
 //! ```
+//!
+//! `--fast` leaves out the original's cross-checks, `--first` ends a seed at its first difference.
 
 mod compare;
 mod counts;
-mod directed;
-mod history;
-mod joint;
-mod records;
-mod rng;
+#[cfg(feature = "library")]
+mod library;
 mod sample;
-mod sheets;
 mod shrink;
 
 use std::process::ExitCode;
 
-use calls::{text, Answer, Call};
-use plain::Decision;
+use calls::text;
+use generator::{joint, Generator};
 
-/// The plain reading's answer.
-pub fn plain_answer(call: &Call) -> Answer {
-    let mut out = Decision::new();
-    plain::transition(
-        &call.workflow,
-        call.state.as_ref(),
-        &call.event,
-        &call.mappings,
-        &call.ceilings,
-        &call.limits,
-        &mut out,
-    );
-    out.answer()
-}
+use compare::Comparison;
 
 struct Arguments {
     seeds: Vec<u64>,
     calls: u64,
     fast: bool,
+    first: bool,
 }
 
 fn arguments(words: &[String]) -> Result<Arguments, String> {
@@ -52,6 +40,7 @@ fn arguments(words: &[String]) -> Result<Arguments, String> {
         seeds: Vec::new(),
         calls: 100_000,
         fast: false,
+        first: false,
     };
     let mut words = words.iter();
     while let Some(word) = words.next() {
@@ -62,10 +51,49 @@ fn arguments(words: &[String]) -> Result<Arguments, String> {
                 arguments.calls = number(word)?;
             }
             "--fast" => arguments.fast = true,
+            "--first" => arguments.first = true,
             word => arguments.seeds.push(number(word)?),
         }
     }
-    Ok(arguments)
+    match arguments.seeds.is_empty() {
+        true => Err("no seed".to_string()),
+        false => Ok(arguments),
+    }
+}
+
+fn compare(arguments: &Arguments) -> bool {
+    let comparison = Comparison {
+        sides: vec![compare::PLAIN],
+        probe: None,
+        generator: Generator::new,
+        fast: arguments.fast,
+        first: arguments.first,
+    };
+    comparison.run(&arguments.seeds, arguments.calls)
+}
+
+#[cfg(feature = "library")]
+fn library(arguments: &Arguments) -> Result<bool, String> {
+    let library = compare::Side {
+        name: "library",
+        answer: library::answer,
+    };
+    let comparison = Comparison {
+        sides: match arguments.fast {
+            true => vec![library],
+            false => vec![compare::PLAIN, library],
+        },
+        probe: Some(library::probe),
+        generator: Generator::of_all_lengths,
+        fast: arguments.fast,
+        first: arguments.first,
+    };
+    Ok(comparison.run(&arguments.seeds, arguments.calls))
+}
+
+#[cfg(not(feature = "library"))]
+fn library(_: &Arguments) -> Result<bool, String> {
+    Err("built without the library: sh oracle/library".to_string())
 }
 
 fn joint() -> bool {
@@ -73,7 +101,7 @@ fn joint() -> bool {
     for case in joint::cases() {
         for (who, answer) in [
             ("original", original::answer(&case.call)),
-            ("plain", plain_answer(&case.call)),
+            ("plain", plain::answer(&case.call)),
         ] {
             let agrees = answer == case.expected;
             good &= agrees;
@@ -92,57 +120,19 @@ fn joint() -> bool {
     good
 }
 
-fn speed() {
-    let cases = joint::cases();
-    let rounds = 200_000;
-    let mut out = Decision::new();
-    let begin = std::time::Instant::now();
-    for _ in 0..rounds {
-        for case in &cases {
-            let call = std::hint::black_box(&case.call);
-            plain::transition(
-                &call.workflow,
-                call.state.as_ref(),
-                &call.event,
-                &call.mappings,
-                &call.ceilings,
-                &call.limits,
-                &mut out,
-            );
-            std::hint::black_box(&out);
-        }
-    }
-    let calls = (rounds * cases.len()) as f64;
-    let each = begin.elapsed().as_secs_f64() / calls;
-    println!("{:.3} microseconds a call", each * 1e6);
-}
-
 fn run(words: &[String]) -> Result<bool, String> {
     let (command, rest) = words.split_first().ok_or("no command")?;
     match command.as_str() {
-        "compare" => {
-            let arguments = arguments(rest)?;
-            Ok(compare::compare(
-                &arguments.seeds,
-                arguments.calls,
-                arguments.fast,
-            ))
-        }
+        "compare" => Ok(compare(&arguments(rest)?)),
+        "library" => library(&arguments(rest)?),
         "wrong" => {
             let arguments = arguments(rest)?;
             Ok(compare::wrong(&arguments.seeds, arguments.calls))
         }
         "joint" => Ok(joint()),
         "recorded" => compare::recorded(rest),
-        "sample" => {
-            let seed = *arguments(rest)?.seeds.first().ok_or("no seed")?;
-            sample::write(seed)
-        }
+        "sample" => sample::write(arguments(rest)?.seeds[0]),
         "read-sample" => sample::read(),
-        "speed" => {
-            speed();
-            Ok(true)
-        }
         other => Err(format!("unknown command {other:?}")),
     }
 }
@@ -167,12 +157,13 @@ mod tests {
     fn joint_a() {
         for case in joint::cases() {
             assert_eq!(original::answer(&case.call), case.expected, "{}", case.name);
-            assert_eq!(plain_answer(&case.call), case.expected, "{}", case.name);
+            assert_eq!(plain::answer(&case.call), case.expected, "{}", case.name);
         }
     }
 
     #[test]
     fn a_few_calls_agree() {
-        assert!(compare::compare(&[7], 20_000, false));
+        let words = ["7", "--calls", "20000"].map(String::from);
+        assert!(compare(&arguments(&words).unwrap()));
     }
 }

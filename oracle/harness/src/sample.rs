@@ -5,11 +5,11 @@ use std::fs;
 use std::path::PathBuf;
 
 use calls::{numbers, Answer, Call, Workflow};
+use generator::{joint, Generator};
 use wrong::Reading;
 
+use crate::compare;
 use crate::counts::{keys, required, Counts};
-use crate::history::Generator;
-use crate::{compare, joint, plain_answer};
 
 /// Calls of the generator that are looked at.
 const TRIED: usize = 300_000;
@@ -268,7 +268,7 @@ pub fn read() -> Result<bool, String> {
         for reading in tells(&readings, &told, &call, &answer) {
             told[reading] += 1;
         }
-        for found in [original::answer(&call), plain_answer(&call)] {
+        for found in [original::answer(&call), plain::answer(&call)] {
             differences += usize::from(found != answer);
         }
     }

@@ -72,6 +72,25 @@ fn ask(call: &Call, request: &Request) -> Answer {
     read_answer(call, run(request, request::script(call)))
 }
 
+/// A call as a host makes it: the request's bytes stand ready, the decision's bytes come back.
+pub struct Asked {
+    request: Request,
+    answers: Vec<Mapped>,
+}
+
+impl Asked {
+    /// None where the sheet hasn't its form: the original can't be asked of it.
+    pub fn of(call: &Call) -> Option<Asked> {
+        let request = request(call)?;
+        let answers = request::script(call);
+        Some(Asked { request, answers })
+    }
+
+    pub fn transition(&self) -> Result<Decision, Failure> {
+        run(&self.request, self.answers.clone()).result
+    }
+}
+
 /// What a call of the original gave back and what its stand-ins saw.
 struct Ran {
     result: Result<Decision, Failure>,

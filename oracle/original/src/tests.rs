@@ -1,84 +1,11 @@
-use calls::{
-    Answer, Call, Ceilings, Ending, Event, Limit, Limits, Mapping, Mappings, Node, Note, Order,
-    Route, State, Workflow, MOST, NONE,
-};
+use calls::{Answer, Call, Ceilings, Ending, Event, Note, Order, State, Workflow, MOST, NONE};
+use generator::joint::{self, signal};
 
 use crate::added::Capped;
 use crate::{answer, answer_fast};
 
-/// The sheet of Joint A.
-fn workflow() -> Workflow {
-    let mut workflow = Workflow::empty();
-    workflow.format = 2;
-    workflow.max_visits_per_node = 3;
-    workflow.max_activations = 10;
-    workflow.node_count = 4;
-    workflow.nodes[0].kind = 1;
-    workflow.nodes[1] = Node {
-        kind: 2,
-        signal: 5,
-        has_limits: 1,
-        ..Node::default()
-    };
-    workflow.nodes[2].kind = 3;
-    workflow.nodes[3].kind = 4;
-    workflow.route_count = 4;
-    let routes = [(0, 0, 1), (1, 1, 2), (1, 3, 3), (1, 4, 0)];
-    for (row, (node, outcome, target)) in workflow.routes.iter_mut().zip(routes) {
-        *row = Route {
-            node,
-            outcome,
-            target,
-        };
-    }
-    workflow.limit_count = 1;
-    workflow.limits[0] = Limit {
-        node: 1,
-        outcome: 4,
-        limit: 1,
-    };
-    workflow.action_count = 1;
-    workflow.actions[0].effect = 1;
-    workflow.actions[0].max_attempts = 2;
-    workflow.declared_count = 1;
-    workflow
-}
-
-fn value(value: u32) -> Mappings {
-    let mut mappings = Mappings {
-        count: 1,
-        ..Mappings::default()
-    };
-    mappings.answers[0] = Mapping {
-        kind: 1,
-        value,
-        ..Mapping::default()
-    };
-    mappings
-}
-
 fn start() -> Call {
-    Call {
-        ceilings: Ceilings {
-            nodes: 64,
-            visits: 64,
-            activations: 64,
-            attempts: 64,
-        },
-        limits: Limits {
-            microsteps: 130,
-            commands: 10,
-            operations: 10,
-        },
-        workflow: workflow(),
-        state: None,
-        event: Event {
-            sequence: 1,
-            kind: 1,
-            ..Event::default()
-        },
-        mappings: value(501),
-    }
+    joint::call(&joint::sheet(), None, joint::start())
 }
 
 fn next(call: &Call) -> State {
@@ -101,24 +28,11 @@ fn then(call: &Call, event: Event) -> Call {
     }
 }
 
+/// A retryable one of the first visit.
 fn result(attempt: u32, status: u32) -> Event {
     Event {
-        kind: 3,
-        visit: 1,
-        attempt,
-        status,
-        outcome: NONE,
         retryable: true,
-        ..Event::default()
-    }
-}
-
-fn signal(signal: u32, outcome: u32) -> Event {
-    Event {
-        kind: 2,
-        signal,
-        outcome,
-        ..Event::default()
+        ..joint::result(0, 1, attempt, status)
     }
 }
 

@@ -1,10 +1,30 @@
-//! The decision as an answer of `calls`, for comparisons. Only this uses the heap.
+//! Calls and answers of `calls`, for comparisons. Only this uses the heap.
 
-use calls::Answer;
+use calls::{Answer, Call};
 
-use super::{Decision, Kind};
+use super::{transition, Decision, Kind};
+
+/// The answer to a call.
+pub fn answer(call: &Call) -> Answer {
+    let mut out = Decision::new();
+    out.decide(call);
+    out.answer()
+}
 
 impl Decision {
+    /// Becomes the decision on a call.
+    pub fn decide(&mut self, call: &Call) {
+        transition(
+            &call.workflow,
+            call.state.as_ref(),
+            &call.event,
+            &call.mappings,
+            &call.ceilings,
+            &call.limits,
+            self,
+        );
+    }
+
     pub fn answer(&self) -> Answer {
         match self.kind {
             Kind::Next => Answer::Next {

@@ -11,6 +11,7 @@ mod snapshot;
 
 use calls::{Ceilings, Ending, Event, Limits, Mappings, Note, Order, State, Workflow, NONE, STORE};
 
+pub use boxed::answer;
 use graph::Graph;
 use machine::Machine;
 

@@ -7,26 +7,4 @@ pub struct Reading {
     pub answer: fn(&Call) -> Answer,
 }
 
-macro_rules! reading {
-    ($module:ident, $about:expr) => {{
-        fn answer(call: &Call) -> Answer {
-            let mut out = $module::Decision::new();
-            $module::transition(
-                &call.workflow,
-                call.state.as_ref(),
-                &call.event,
-                &call.mappings,
-                &call.ceilings,
-                &call.limits,
-                &mut out,
-            );
-            out.answer()
-        }
-        Reading {
-            about: $about,
-            answer,
-        }
-    }};
-}
-
 include!(concat!(env!("OUT_DIR"), "/readings.rs"));

@@ -1,5 +1,6 @@
 use borrow.Author.Needs.{needs}
-use Rattle.graph.specs.FormLaws.{actions-blank, and-2}
+use Rattle.laws.specs.Bool.{strict-and}
+use Rattle.graph.specs.FormLaws.{actions-blank}
 use Rattle.graph.proofs.form.actions_blank.Statement.{statement}
 use Rattle.graph.proofs.form.actions_blank.Tie as tie
 
@@ -11,7 +12,7 @@ column-blank-requires-2 c κs = search needs
 
 returns : tie.Need-returns
 unfolding actions-blank
-returns c = simp (← c .before .column-blank .ensures, ← c .column-blank2 .ensures) (and-2 _ _)
+returns c = simp (← c .before .column-blank .ensures, ← c .column-blank2 .ensures) (simp strict-and)
 
 pub actions-blank-spec : {M : Type 1} → statement M
 actions-blank-spec = tie.close (tie.spec column-blank-requires column-blank-requires-2 returns)

@@ -1,4 +1,4 @@
-use borrow.Author.Tests.{lt-ltb, le-ltb}
+use borrow.Author.Tests.{le-leb, lt-leb}
 use borrow.Author.Needs.{needs}
 use native.Mathlib.Omega.{arith}
 use mathlib.Core.Path.{ap, _≡_, refl}
@@ -32,7 +32,7 @@ action-at-requires : tie.Need-action-at-requires Inv-loop μ-loop
 action-at-requires c κs = search needs
 
 returns : tie.Need-returns Inv-loop μ-loop
-returns c = seek-hit (c .before .before .before .before .loop .inv .1) (omega arith) (c .before .before .action-at .ensures) refl (ap not (le-ltb _ _ (c .if1 .taken)))
+returns c = seek-hit (c .before .before .before .before .loop .inv .1) (omega arith) (c .before .before .action-at .ensures) refl (ap not (lt-leb _ _ (c .if1 .taken)))
 
 add-i : tie.Need-add-i Inv-loop μ-loop
 add-i c = search needs
@@ -41,7 +41,7 @@ loop-less : tie.Need-loop-less Inv-loop μ-loop
 loop-less c = search needs
 
 loop-again : tie.Need-loop-again Inv-loop μ-loop
-loop-again c = (c .before .before .before .before .loop .inv .0, seek-miss (c .before .before .before .before .loop .inv .1) (omega arith) (c .before .before .action-at .ensures) refl (ap not (lt-ltb _ _ (c .if1 .left))))
+loop-again c = (c .before .before .before .before .loop .inv .0, seek-miss (c .before .before .before .before .loop .inv .1) (omega arith) (c .before .before .action-at .ensures) refl (ap not (le-leb _ _ (c .if1 .left))))
 
 returns-2 : tie.Need-returns-2 Inv-loop μ-loop
 returns-2 c = seek-end (c .before .loop .inv .1) (omega arith)

@@ -1,5 +1,5 @@
 use borrow.Author.Needs.{needs}
-use Rattle.graph.specs.FormLaws.{and-5}
+use Rattle.laws.specs.Bool.{strict-and, and-left}
 use Rattle.graph.proofs.form.counts_fit.Statement.{statement}
 use Rattle.graph.proofs.form.counts_fit.Tie as tie
 
@@ -34,7 +34,7 @@ has-room-requires-5 : tie.Need-has-room-requires-5
 has-room-requires-5 c κs = search needs
 
 returns : tie.Need-returns
-returns c = simp (← c .before .before .before .before .before .before .before .before .has-room .ensures, ← c .before .before .before .before .before .before .has-room2 .ensures, ← c .before .before .before .before .has-room3 .ensures, ← c .before .before .has-room4 .ensures, ← c .has-room5 .ensures) (and-5 _ _ _ _ _)
+returns c = simp (← c .before .before .before .before .before .before .before .before .has-room .ensures, ← c .before .before .before .before .before .before .has-room2 .ensures, ← c .before .before .before .before .has-room3 .ensures, ← c .before .before .has-room4 .ensures, ← c .has-room5 .ensures) (simp and-left (simp strict-and))
 
 pub counts-fit-spec : {M : Type 1} → statement M
 counts-fit-spec =

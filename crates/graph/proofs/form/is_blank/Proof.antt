@@ -1,5 +1,6 @@
 use borrow.Author.Needs.{needs}
-use Rattle.graph.specs.FormLaws.{blank-parts, passed, stopped}
+use Rattle.laws.specs.Bool.{passed, stopped}
+use Rattle.graph.specs.FormLaws.{blank-parts}
 use Rattle.graph.proofs.form.is_blank.Statement.{statement}
 use Rattle.graph.proofs.form.is_blank.Tie as tie
 

@@ -1,5 +1,6 @@
 use borrow.Author.Needs.{needs}
-use Rattle.graph.specs.FormLaws.{form-parts, passed, stopped}
+use Rattle.laws.specs.Bool.{passed, stopped}
+use Rattle.graph.specs.FormLaws.{form-parts}
 use Rattle.graph.proofs.form.is_formed.Statement.{statement}
 use Rattle.graph.proofs.form.is_formed.Tie as tie
 

@@ -1,6 +1,6 @@
 use borrow.Author.Needs.{needs}
+use Rattle.laws.specs.Bool.{strict-and, and-left}
 use Rattle.graph.specs.Form.{limit-fits}
-use Rattle.graph.specs.FormLaws.{and-3}
 use Rattle.graph.proofs.form.limit_fits.Statement.{statement}
 use Rattle.graph.proofs.form.limit_fits.Tie as tie
 
@@ -12,7 +12,7 @@ node-of-requires c κs = search needs
 
 returns : tie.Need-returns
 unfolding limit-fits
-returns c = rw (← c .before .before .before .routes-at .ensures, ← c .before .before .node-of .ensures) (and-3 _ _ _)
+returns c = rw (← c .before .before .before .routes-at .ensures, ← c .before .before .node-of .ensures) (simp and-left (simp strict-and))
 
 pub limit-fits-spec : {M : Type 1} → statement M
 limit-fits-spec = tie.close (tie.spec routes-at-requires node-of-requires returns)

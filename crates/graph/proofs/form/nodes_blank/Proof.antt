@@ -1,5 +1,6 @@
 use borrow.Author.Needs.{needs}
-use Rattle.graph.specs.FormLaws.{nodes-blank, and-7}
+use Rattle.laws.specs.Bool.{strict-and, and-left}
+use Rattle.graph.specs.FormLaws.{nodes-blank}
 use Rattle.graph.proofs.form.nodes_blank.Statement.{statement}
 use Rattle.graph.proofs.form.nodes_blank.Tie as tie
 
@@ -26,7 +27,7 @@ column-blank-requires-7 c κs = search needs
 
 returns : tie.Need-returns
 unfolding nodes-blank
-returns c = simp (← c .before .before .before .before .before .before .column-blank .ensures, ← c .before .before .before .before .before .column-blank2 .ensures, ← c .before .before .before .before .column-blank3 .ensures, ← c .before .before .before .column-blank4 .ensures, ← c .before .before .column-blank5 .ensures, ← c .before .column-blank6 .ensures, ← c .column-blank7 .ensures) (and-7 _ _ _ _ _ _ _)
+returns c = simp (← c .before .before .before .before .before .before .column-blank .ensures, ← c .before .before .before .before .before .column-blank2 .ensures, ← c .before .before .before .before .column-blank3 .ensures, ← c .before .before .before .column-blank4 .ensures, ← c .before .before .column-blank5 .ensures, ← c .before .column-blank6 .ensures, ← c .column-blank7 .ensures) (simp and-left (simp strict-and))
 
 pub nodes-blank-spec : {M : Type 1} → statement M
 nodes-blank-spec =

@@ -1,5 +1,6 @@
 use borrow.Author.Needs.{needs}
-use Rattle.graph.specs.FormLaws.{routes-blank, and-3}
+use Rattle.laws.specs.Bool.{strict-and, and-left}
+use Rattle.graph.specs.FormLaws.{routes-blank}
 use Rattle.graph.proofs.form.routes_blank.Statement.{statement}
 use Rattle.graph.proofs.form.routes_blank.Tie as tie
 
@@ -14,7 +15,7 @@ column-blank-requires-3 c κs = search needs
 
 returns : tie.Need-returns
 unfolding routes-blank
-returns c = simp (← c .before .before .column-blank .ensures, ← c .before .column-blank2 .ensures, ← c .column-blank3 .ensures) (and-3 _ _ _)
+returns c = simp (← c .before .before .column-blank .ensures, ← c .before .column-blank2 .ensures, ← c .column-blank3 .ensures) (simp and-left (simp strict-and))
 
 pub routes-blank-spec : {M : Type 1} → statement M
 routes-blank-spec =

@@ -6,7 +6,8 @@ use borrow.Author.Needs.{needs}
 use Rattle.laws.specs.First.{seek-hit, seek-miss, seek-end}
 use Rattle.workflow.specs.View.{workflow}
 use Rattle.graph.specs.declared.Verdict.the-variants.{Fine}
-use Rattle.graph.specs.RulesLaws.{parts, actions-rise, the-group, Walking, walk-start}
+use Rattle.graph.specs.SearchLaws.{parts-of}
+use Rattle.graph.specs.RulesLaws.{actions-rise, the-group, Walking, walk-start}
 use Rattle.graph.specs.Verdict.{is-broken, action-verdict, actions-verdict}
 use Rattle.graph.proofs.rules.actions_verdict.Statement.{statement}
 use Rattle.graph.proofs.rules.actions_verdict.Tie as tie
@@ -46,7 +47,7 @@ is-broken-requires : tie.Need-is-broken-requires Inv-loop μ-loop
 is-broken-requires c κs = search needs
 
 returns : tie.Need-returns Inv-loop μ-loop
-returns c = c .before .before .action-verdict .ensures ∙ seek-hit (c .before .before .before .before .before .loop .inv .seek) (omega (arith, parts _ (c .before .before .before .before .before .before .before .before .before .before .pre) .few-actions)) refl (c .before .is-broken .ensures ∙ ap is-broken (c .before .before .action-verdict .ensures)) (c .if1 .taken)
+returns c = c .before .before .action-verdict .ensures ∙ seek-hit (c .before .before .before .before .before .loop .inv .seek) (omega (arith, parts-of _ (c .before .before .before .before .before .before .before .before .before .before .pre) .few-actions)) refl (c .before .is-broken .ensures ∙ ap is-broken (c .before .before .action-verdict .ensures)) (c .if1 .taken)
 
 add-i : tie.Need-add-i Inv-loop μ-loop
 add-i c = search needs
@@ -55,10 +56,10 @@ loop-less : tie.Need-loop-less Inv-loop μ-loop
 loop-less c = search needs
 
 loop-again : tie.Need-loop-again Inv-loop μ-loop
-loop-again c = record { place = c .before .before .before .rows-end .ensures; seek = seek-miss (c .before .before .before .before .before .loop .inv .seek) (omega (arith, parts _ (c .before .before .before .before .before .before .before .before .before .before .pre) .few-actions)) refl (c .before .is-broken .ensures ∙ ap is-broken (c .before .before .action-verdict .ensures)) (c .if1 .left) }
+loop-again c = record { place = c .before .before .before .rows-end .ensures; seek = seek-miss (c .before .before .before .before .before .loop .inv .seek) (omega (arith, parts-of _ (c .before .before .before .before .before .before .before .before .before .before .pre) .few-actions)) refl (c .before .is-broken .ensures ∙ ap is-broken (c .before .before .action-verdict .ensures)) (c .if1 .left) }
 
 returns-2 : tie.Need-returns-2 Inv-loop μ-loop
-returns-2 c = seek-end (c .before .loop .inv .seek) (omega (arith, parts _ (c .before .before .before .before .before .before .pre) .few-actions))
+returns-2 c = seek-end (c .before .loop .inv .seek) (omega (arith, parts-of _ (c .before .before .before .before .before .before .pre) .few-actions))
 
 pub actions-verdict-spec : {M : Type 1} → statement M
 actions-verdict-spec =

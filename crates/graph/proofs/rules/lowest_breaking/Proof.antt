@@ -6,7 +6,8 @@ use borrow.Author.Needs.{needs}
 use Rattle.laws.specs.First.{seek-hit, seek-miss, seek-end}
 use Rattle.workflow.specs.declared.Found.the-variants.{At, Nothing}
 use Rattle.workflow.specs.View.{workflow}
-use Rattle.graph.specs.RulesLaws.{parts, routes-rise, the-group, breaks, Walking, walk-start}
+use Rattle.graph.specs.SearchLaws.{parts-of}
+use Rattle.graph.specs.RulesLaws.{routes-rise, the-group, breaks, Walking, walk-start}
 use Rattle.graph.specs.Lowest.{lowest}
 use Rattle.graph.proofs.rules.lowest_breaking.Statement.{statement}
 use Rattle.graph.proofs.rules.lowest_breaking.Tie as tie
@@ -42,7 +43,7 @@ breaks-requires : tie.Need-breaks-requires Inv-loop μ-loop
 breaks-requires c κs = the-group (c .before .before .before .before .before .before .before .pre) (c .before .before .before .capped2 .ensures) (c .before .before .loop .inv .place) (c .rows-end .ensures)
 
 returns : tie.Need-returns Inv-loop μ-loop
-returns c = seek-hit (c .before .before .before .before .loop .inv .seek) (omega (arith, parts _ (c .before .before .before .before .before .before .before .before .before .pre) .few-nodes)) refl (c .before .breaks .ensures) (c .if1 .taken)
+returns c = seek-hit (c .before .before .before .before .loop .inv .seek) (omega (arith, parts-of _ (c .before .before .before .before .before .before .before .before .before .pre) .few-nodes)) refl (c .before .breaks .ensures) (c .if1 .taken)
 
 add-i : tie.Need-add-i Inv-loop μ-loop
 add-i c = search needs
@@ -51,10 +52,10 @@ loop-less : tie.Need-loop-less Inv-loop μ-loop
 loop-less c = search needs
 
 loop-again : tie.Need-loop-again Inv-loop μ-loop
-loop-again c = record { place = c .before .before .rows-end .ensures; seek = seek-miss (c .before .before .before .before .loop .inv .seek) (omega (arith, parts _ (c .before .before .before .before .before .before .before .before .before .pre) .few-nodes)) refl (c .before .breaks .ensures) (c .if1 .left) }
+loop-again c = record { place = c .before .before .rows-end .ensures; seek = seek-miss (c .before .before .before .before .loop .inv .seek) (omega (arith, parts-of _ (c .before .before .before .before .before .before .before .before .before .pre) .few-nodes)) refl (c .before .breaks .ensures) (c .if1 .left) }
 
 returns-2 : tie.Need-returns-2 Inv-loop μ-loop
-returns-2 c = seek-end (c .before .loop .inv .seek) (omega (arith, parts _ (c .before .before .before .before .before .before .pre) .few-nodes))
+returns-2 c = seek-end (c .before .loop .inv .seek) (omega (arith, parts-of _ (c .before .before .before .before .before .before .pre) .few-nodes))
 
 pub lowest-breaking-spec : {M : Type 1} → statement M
 lowest-breaking-spec =

@@ -7,7 +7,8 @@ use borrow.Author.Tests.{eq-eqb, ne-eqb}
 use Rattle.laws.specs.First.{Seek, seek-start, seek-hit, seek-miss, seek-end}
 use Rattle.workflow.specs.declared.Found.the-variants.{At, Nothing}
 use Rattle.workflow.specs.View.{workflow}
-use Rattle.graph.specs.RulesLaws.{parts, with-params, no-params}
+use Rattle.graph.specs.SearchLaws.{parts-of}
+use Rattle.graph.specs.RulesLaws.{with-params, no-params}
 use Rattle.graph.specs.Rules.{breaks-1}
 use Rattle.graph.specs.Lowest.{lowest}
 use Rattle.graph.proofs.rules.lowest_with_params.Statement.{statement}
@@ -47,7 +48,7 @@ cast-t16 : tie.Need-cast-t16 Inv-loop μ-loop
 cast-t16 c = search needs
 
 returns-2 : tie.Need-returns-2 Inv-loop μ-loop
-returns-2 c = seek-hit (c .before .before .before .loop .inv) (omega (arith, parts _ (c .before .before .before .before .before .before .before .before .pre) .few-nodes)) refl (with-params (c .before .before .before .before .before .before .before .before .args .w .now) (c .before .before .before .loop .i) (omega arith) (c .before .before .before .before .before .before .if1 .left)) (eq-eqb _ _ (c .if2 .taken))
+returns-2 c = seek-hit (c .before .before .before .loop .inv) (omega (arith, parts-of _ (c .before .before .before .before .before .before .before .before .pre) .few-nodes)) refl (with-params (c .before .before .before .before .before .before .before .before .args .w .now) (c .before .before .before .loop .i) (omega arith) (c .before .before .before .before .before .before .if1 .left)) (eq-eqb _ _ (c .if2 .taken))
 
 add-i : tie.Need-add-i Inv-loop μ-loop
 add-i c = search needs
@@ -56,10 +57,10 @@ loop-less : tie.Need-loop-less Inv-loop μ-loop
 loop-less c = search needs
 
 loop-again : tie.Need-loop-again Inv-loop μ-loop
-loop-again c = seek-miss (c .before .before .before .loop .inv) (omega (arith, parts _ (c .before .before .before .before .before .before .before .before .pre) .few-nodes)) refl (with-params (c .before .before .before .before .before .before .before .before .args .w .now) (c .before .before .before .loop .i) (omega arith) (c .before .before .before .before .before .before .if1 .left)) (ne-eqb _ _ (c .if2 .left))
+loop-again c = seek-miss (c .before .before .before .loop .inv) (omega (arith, parts-of _ (c .before .before .before .before .before .before .before .before .pre) .few-nodes)) refl (with-params (c .before .before .before .before .before .before .before .before .args .w .now) (c .before .before .before .loop .i) (omega arith) (c .before .before .before .before .before .before .if1 .left)) (ne-eqb _ _ (c .if2 .left))
 
 returns-3 : tie.Need-returns-3 Inv-loop μ-loop
-returns-3 c = seek-end (c .before .loop .inv) (omega (arith, parts _ (c .before .before .before .before .before .before .pre) .few-nodes))
+returns-3 c = seek-end (c .before .loop .inv) (omega (arith, parts-of _ (c .before .before .before .before .before .before .pre) .few-nodes))
 
 pub lowest-with-params-spec : {M : Type 1} → statement M
 lowest-with-params-spec =

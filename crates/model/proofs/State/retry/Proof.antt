@@ -1,5 +1,5 @@
 use Prim.Native.Nat.{_+_}
-use Rattle.model.specs.Code.{largest}
+use Rattle.workflow.specs.Code.{largest}
 use native.Mathlib.Omega.{arith}
 use Rattle.model.specs.MachineLaws.{last-attempt, more-attempts, not-above}
 use Rattle.model.specs.Step.{retry}

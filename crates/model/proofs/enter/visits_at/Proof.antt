@@ -1,5 +1,5 @@
 use borrow.Author.Needs.{needs}
-use Rattle.laws.specs.Arrays.{past-getD, length-field}
+use Rattle.laws.specs.Arrays.{past-getD}
 use Rattle.model.proofs.enter.visits_at.Statement.{statement}
 use Rattle.model.proofs.enter.visits_at.Tie as tie
 
@@ -13,7 +13,7 @@ returns : tie.Need-returns
 returns c = search needs
 
 returns-2 : tie.Need-returns-2
-returns-2 c = search (needs, past-getD, length-field)
+returns-2 c = search (needs, past-getD)
 
 pub visits-at-spec : {M : Type 1} → statement M
 visits-at-spec = tie.close (tie.spec mul-result array-copy-out-result returns returns-2)

@@ -1,5 +1,5 @@
+use Rattle.laws.specs.Bool.{and-left, strict-and, strict-or}
 use Rattle.model.specs.EventCheck.{event-fits}
-use Rattle.model.specs.SnapshotLaws.{and-left, strict-and, strict-or}
 use borrow.Author.Needs.{needs}
 use Rattle.model.proofs.snapshot.event_fits.Statement.{statement}
 use Rattle.model.proofs.snapshot.event_fits.Tie as tie

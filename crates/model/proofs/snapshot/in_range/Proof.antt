@@ -1,4 +1,4 @@
-use Rattle.model.specs.SnapshotLaws.{strict-and}
+use Rattle.laws.specs.Bool.{strict-and}
 use Rattle.model.proofs.snapshot.in_range.Statement.{statement}
 use Rattle.model.proofs.snapshot.in_range.Tie as tie
 

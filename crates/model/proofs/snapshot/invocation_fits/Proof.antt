@@ -1,6 +1,6 @@
 use borrow.Author.Tests.{eq-eqb, ne-eqb}
-use Rattle.model.specs.SnapshotLaws.{invocation-fits, and-left, strict-and}
-use Rattle.laws.specs.Bool.{if_then_else_}
+use Rattle.model.specs.SnapshotLaws.{invocation-fits}
+use Rattle.laws.specs.Bool.{if_then_else_, and-left, strict-and}
 use borrow.Author.Needs.{needs}
 use Rattle.model.proofs.snapshot.invocation_fits.Statement.{statement}
 use Rattle.model.proofs.snapshot.invocation_fits.Tie as tie

@@ -1,4 +1,5 @@
-use Rattle.model.specs.SnapshotLaws.{live-by, and-left, strict-and}
+use Rattle.laws.specs.Bool.{and-left, strict-and}
+use Rattle.model.specs.SnapshotLaws.{live-by}
 use borrow.Author.Needs.{needs}
 use Rattle.model.proofs.snapshot.live_fits.Statement.{statement}
 use Rattle.model.proofs.snapshot.live_fits.Tie as tie

@@ -1,6 +1,6 @@
 use borrow.Author.Tests.{le-ltb, lt-ltb}
-use Rattle.model.specs.SnapshotLaws.{node-fits, and-left, strict-and}
-use Rattle.laws.specs.Bool.{if_then_else_}
+use Rattle.model.specs.SnapshotLaws.{node-fits}
+use Rattle.laws.specs.Bool.{if_then_else_, and-left, strict-and}
 use borrow.Author.Needs.{needs}
 use Rattle.model.proofs.snapshot.node_fits.Statement.{statement}
 use Rattle.model.proofs.snapshot.node_fits.Tie as tie

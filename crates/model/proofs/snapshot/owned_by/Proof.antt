@@ -1,5 +1,5 @@
-use Rattle.model.specs.SnapshotLaws.{and-left, strict-and}
 use borrow.Author.Needs.{needs}
+use Rattle.laws.specs.Bool.{and-left, strict-and}
 use Rattle.model.proofs.snapshot.owned_by.Statement.{statement}
 use Rattle.model.proofs.snapshot.owned_by.Tie as tie
 

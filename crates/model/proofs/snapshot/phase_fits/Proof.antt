@@ -1,5 +1,5 @@
-use Rattle.model.specs.SnapshotLaws.{strict-and, strict-or}
 use borrow.Author.Needs.{needs}
+use Rattle.laws.specs.Bool.{strict-and, strict-or}
 use Rattle.model.proofs.snapshot.phase_fits.Statement.{statement}
 use Rattle.model.proofs.snapshot.phase_fits.Tie as tie
 

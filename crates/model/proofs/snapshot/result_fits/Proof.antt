@@ -1,5 +1,5 @@
-use Rattle.model.specs.SnapshotLaws.{strict-or}
 use borrow.Author.Needs.{needs}
+use Rattle.laws.specs.Bool.{strict-or}
 use Rattle.model.proofs.snapshot.result_fits.Statement.{statement}
 use Rattle.model.proofs.snapshot.result_fits.Tie as tie
 

@@ -1,6 +1,6 @@
 use borrow.Author.Tests.{le-ltb, lt-ltb}
-use Rattle.model.specs.SnapshotLaws.{signal-fits, and-left, strict-and}
-use Rattle.laws.specs.Bool.{if_then_else_}
+use Rattle.model.specs.SnapshotLaws.{signal-fits}
+use Rattle.laws.specs.Bool.{if_then_else_, and-left, strict-and}
 use Rattle.model.proofs.snapshot.signal_fits.Statement.{statement}
 use Rattle.model.proofs.snapshot.signal_fits.Tie as tie
 

@@ -1,4 +1,5 @@
-use Rattle.model.specs.SnapshotLaws.{slots-fit, strict-and}
+use Rattle.laws.specs.Bool.{strict-and}
+use Rattle.model.specs.SnapshotLaws.{slots-fit}
 use borrow.Author.Needs.{needs}
 use Rattle.model.proofs.snapshot.slots_fit.Statement.{statement}
 use Rattle.model.proofs.snapshot.slots_fit.Tie as tie

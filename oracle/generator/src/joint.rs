@@ -1,9 +1,9 @@
 //! The twelve cases of Joint A, with the answers that document 01's text gives them.
 
 use calls::{
-    Action, Answer, BufferedSignal, Call, Ceilings, Declared, Ending, ErrorInfo, Event,
-    InvocationState, Limit, Limits, Mapping, Mappings, Node, NodeResult, Note, Order, Output,
-    Position, Route, State, Streak, Workflow, MOST, NONE,
+    Answer, BufferedSignal, Call, Ceilings, Ending, ErrorInfo, Event, InvocationState, Limits,
+    Mapping, Mappings, Node, NodeResult, Note, Order, Output, Position, Rows, State, Streak,
+    Workflow, MOST, NONE,
 };
 
 pub struct Case {
@@ -21,60 +21,31 @@ const DETAIL: u32 = 78;
 /// Format 2, visits 3, activations 10. Node 0: activity, action 0, ok to 1. Node 1: await signal 5, received to 2,
 /// outcome 4 to 0, exhausted to 3, limit 1 on 4. Node 2 complete, 3 fail. Action 0: effect 1, ok, 2 attempts.
 pub fn sheet() -> Workflow {
-    let mut sheet = Workflow::empty();
-    sheet.format = 2;
-    sheet.max_visits_per_node = 3;
-    sheet.max_activations = 10;
-    let nodes = [
-        Node {
-            kind: 1,
-            ..Node::default()
-        },
-        Node {
-            kind: 2,
-            signal: 5,
-            has_limits: 1,
-            ..Node::default()
-        },
-        Node {
-            kind: 3,
-            ..Node::default()
-        },
-        Node {
-            kind: 4,
-            code: CODE,
-            detail: DETAIL,
-            ..Node::default()
-        },
-    ];
-    sheet.node_count = 4;
-    sheet.nodes[..4].copy_from_slice(&nodes);
-    let routes = [(0, 0, 1), (1, 1, 2), (1, 3, 3), (1, 4, 0)];
-    sheet.route_count = 4;
-    for (i, (node, outcome, target)) in routes.into_iter().enumerate() {
-        sheet.routes[i] = Route {
-            node,
-            outcome,
-            target,
-        };
-    }
-    sheet.limit_count = 1;
-    sheet.limits[0] = Limit {
-        node: 1,
-        outcome: 4,
-        limit: 1,
+    let of_kind = |kind| Node {
+        kind,
+        ..Node::default()
     };
-    sheet.action_count = 1;
-    sheet.actions[0] = Action {
-        effect: 1,
-        max_attempts: 2,
+    let rows = Rows {
+        nodes: &[
+            of_kind(1),
+            Node {
+                signal: 5,
+                has_limits: 1,
+                ..of_kind(2)
+            },
+            of_kind(3),
+            Node {
+                code: CODE,
+                detail: DETAIL,
+                ..of_kind(4)
+            },
+        ],
+        routes: &[(0, 0, 1), (1, 1, 2), (1, 3, 3), (1, 4, 0)],
+        limits: &[(1, 4, 1)],
+        actions: &[(1, 2)],
+        declared: &[(0, 0)],
     };
-    sheet.declared_count = 1;
-    sheet.declared[0] = Declared {
-        action: 0,
-        outcome: 0,
-    };
-    sheet
+    Workflow::of(3, 10, &rows)
 }
 
 /// Microstep limit 130, ceilings 64, command and operation limits 10, time 0, one value of 0 operations.

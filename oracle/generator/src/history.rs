@@ -7,7 +7,7 @@ use calls::{
 
 use crate::records::{self, CODES, NAMES};
 use crate::rng::{Rng, EDGES, LONG_EDGES};
-use crate::{directed, sheets};
+use crate::{directed, full, sheets};
 
 /// Gives one call after the other; the answer to each is told to it.
 pub struct Generator {
@@ -20,6 +20,7 @@ pub struct Generator {
     wanted: Option<Event>,
     /// The last result that was sent.
     result: Option<Event>,
+    all_lengths: bool,
 }
 
 impl Generator {
@@ -43,6 +44,25 @@ impl Generator {
             left: 0,
             wanted: None,
             result: None,
+            all_lengths: false,
+        }
+    }
+
+    /// The same with full sheets among them, and histories of 1 to 512 calls, short ones as likely as long ones.
+    pub fn of_all_lengths(seed: u64) -> Generator {
+        let mut generator = Generator::new(seed);
+        generator.directed.extend(directed::at_counts());
+        generator.all_lengths = true;
+        generator
+    }
+
+    fn length(&mut self) -> usize {
+        match self.all_lengths {
+            true => {
+                let most = 1 << self.rng.below(10);
+                1 + self.rng.below(most)
+            }
+            false => 4 + self.rng.below(26),
         }
     }
 
@@ -51,11 +71,14 @@ impl Generator {
             return call;
         }
         if self.left == 0 {
-            self.workflow = sheets::right(&mut self.rng);
+            self.workflow = match self.all_lengths && self.rng.one_in(40) {
+                true => full::sheet(2 + self.rng.small(63)),
+                false => sheets::right(&mut self.rng),
+            };
             self.state = None;
             self.wanted = None;
             self.result = None;
-            self.left = 4 + self.rng.below(26);
+            self.left = self.length();
         }
         self.left -= 1;
         if self.rng.percent(14) {

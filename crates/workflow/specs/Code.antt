@@ -9,9 +9,36 @@ none = 255
 abbrev pub largest : ℕ
 largest = 2 ^ 63 - 1
 
+-- The largest attempt number.
+abbrev pub largest-attempt : ℕ
+largest-attempt = 2 ^ 32 - 1
+
 -- How many signals are stored at most.
 abbrev pub store : ℕ
 store = 64
+
+-- How many rows of each sort a sheet has room for.
+abbrev pub node-room : ℕ
+node-room = 64
+
+abbrev pub route-room : ℕ
+route-room = 512
+
+abbrev pub limit-room : ℕ
+limit-room = 512
+
+abbrev pub action-room : ℕ
+action-room = 64
+
+abbrev pub declared-room : ℕ
+declared-room = 256
+
+-- Formats of a sheet: 2 is the 0.2 document.
+abbrev pub format-0-1 : ℕ
+format-0-1 = 1
+
+abbrev pub format-0-2 : ℕ
+format-0-2 = 2
 
 -- Outcomes that have a meaning of their own.
 abbrev pub ok : ℕ
@@ -38,6 +65,13 @@ complete = 3
 
 abbrev pub fail : ℕ
 fail = 4
+
+-- Effects of an action; 1 is neither.
+abbrev pub repeatable : ℕ
+repeatable = 0
+
+abbrev pub reconcilable : ℕ
+reconcilable = 2
 
 -- A run's status.
 abbrev pub running : ℕ

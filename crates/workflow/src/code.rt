@@ -8,6 +8,14 @@ pub const LARGEST: u64 = 9223372036854775807;
 
 pub const LARGEST_ATTEMPT: u32 = 4294967295;
 
+// How many signals are stored at most.
+pub const STORE: usize = 64;
+
+// Formats of a sheet: 2 is the 0.2 document.
+pub const FORMAT_0_1: u32 = 1;
+
+pub const FORMAT_0_2: u32 = 2;
+
 // Outcomes that have a meaning of their own.
 pub const OK: u32 = 0;
 
@@ -25,6 +33,11 @@ pub const AWAIT_SIGNAL: u32 = 2;
 pub const COMPLETE: u32 = 3;
 
 pub const FAIL: u32 = 4;
+
+// Effects of an action; 1 is neither.
+pub const REPEATABLE: u32 = 0;
+
+pub const RECONCILABLE: u32 = 2;
 
 // A run's status.
 pub const RUNNING: u32 = 1;
@@ -52,6 +65,8 @@ pub const SIGNAL_RECEIVED: u32 = 2;
 pub const ACTIVITY_RESULT: u32 = 3;
 
 pub const INVOCATION_RESOLVED: u32 = 4;
+
+pub const NOTED: u32 = 5;
 
 // The status of a result.
 pub const SUCCESS: u32 = 1;

@@ -1,8 +1,0 @@
-//! Links the proved library, which `rt staticlib` writes.
-
-fn main() {
-    let folder = concat!(env!("CARGO_MANIFEST_DIR"), "/../target/staticlib");
-    println!("cargo:rustc-link-search=native={folder}");
-    println!("cargo:rustc-link-lib=static=kernel");
-    println!("cargo:rerun-if-changed={folder}/libkernel.a");
-}

@@ -1,0 +1,174 @@
+/* Kuxhoveza for hosts. docs/NUMBERS.md says what the numbers mean; every offset counts numbers, not bytes.
+ *
+ * The functions keep nothing between calls, need no initialisation and may be called from several threads at once. */
+#ifndef KUXHOVEZA_H
+#define KUXHOVEZA_H
+
+#include <stddef.h>
+#include <stdint.h>
+
+#ifdef __cplusplus
+extern "C" {
+#endif
+
+/* Lengths of the arrays. */
+#define KUXHOVEZA_SHEET 4169
+#define KUXHOVEZA_CALL 38
+#define KUXHOVEZA_RECORD 918
+#define KUXHOVEZA_ANSWER 1386
+
+/* Capacities. */
+#define KUXHOVEZA_NODES 64
+#define KUXHOVEZA_ROUTES 512
+#define KUXHOVEZA_LIMITS 512
+#define KUXHOVEZA_ACTIONS 64
+#define KUXHOVEZA_DECLARED 256
+#define KUXHOVEZA_STORE 64
+#define KUXHOVEZA_MAPPINGS 2
+#define KUXHOVEZA_NOTES 65
+#define KUXHOVEZA_ENDINGS 65
+
+/* Sheet: single numbers, then the first number of each column. */
+#define KUXHOVEZA_SHEET_FORMAT 0
+#define KUXHOVEZA_SHEET_START 1
+#define KUXHOVEZA_SHEET_MAX_VISITS 2
+#define KUXHOVEZA_SHEET_MAX_ACTIVATIONS 3
+#define KUXHOVEZA_SHEET_NODES 4
+#define KUXHOVEZA_SHEET_ROUTES 5
+#define KUXHOVEZA_SHEET_LIMITS 6
+#define KUXHOVEZA_SHEET_ACTIONS 7
+#define KUXHOVEZA_SHEET_DECLARED 8
+#define KUXHOVEZA_SHEET_NODE_KIND 9
+#define KUXHOVEZA_SHEET_NODE_ACTION 73
+#define KUXHOVEZA_SHEET_NODE_HAS_PARAMS 137
+#define KUXHOVEZA_SHEET_NODE_SIGNAL 201
+#define KUXHOVEZA_SHEET_NODE_CODE 265
+#define KUXHOVEZA_SHEET_NODE_DETAIL 329
+#define KUXHOVEZA_SHEET_NODE_HAS_LIMITS 393
+#define KUXHOVEZA_SHEET_ROUTE_NODE 457
+#define KUXHOVEZA_SHEET_ROUTE_OUTCOME 969
+#define KUXHOVEZA_SHEET_ROUTE_TARGET 1481
+#define KUXHOVEZA_SHEET_LIMIT_NODE 1993
+#define KUXHOVEZA_SHEET_LIMIT_OUTCOME 2505
+#define KUXHOVEZA_SHEET_LIMIT_LIMIT 3017
+#define KUXHOVEZA_SHEET_ACTION_EFFECT 3529
+#define KUXHOVEZA_SHEET_ACTION_MAX_ATTEMPTS 3593
+#define KUXHOVEZA_SHEET_DECLARED_ACTION 3657
+#define KUXHOVEZA_SHEET_DECLARED_OUTCOME 3913
+
+/* Run record. An output is OUTPUT_WIDTH numbers: its kind, the handle or the error's code, the error's node and detail. */
+#define KUXHOVEZA_OUTPUT_WIDTH 4
+#define KUXHOVEZA_RECORD_STATUS 0
+#define KUXHOVEZA_RECORD_INPUT 1
+#define KUXHOVEZA_RECORD_ACTIVATIONS 2
+#define KUXHOVEZA_RECORD_LAST_SEQUENCE 3
+#define KUXHOVEZA_RECORD_LAST_ACCEPTED_AT 4
+#define KUXHOVEZA_RECORD_POSITION_NODE 5
+#define KUXHOVEZA_RECORD_POSITION_VISIT 6
+#define KUXHOVEZA_RECORD_PHASE 7
+#define KUXHOVEZA_RECORD_INVOCATION_NODE 8
+#define KUXHOVEZA_RECORD_INVOCATION_VISIT 9
+#define KUXHOVEZA_RECORD_INVOCATION_ACTION 10
+#define KUXHOVEZA_RECORD_INVOCATION_ATTEMPT 11
+#define KUXHOVEZA_RECORD_INVOCATION_INPUT 12
+#define KUXHOVEZA_RECORD_HAS_ERROR 13
+#define KUXHOVEZA_RECORD_ERROR_CODE 14
+#define KUXHOVEZA_RECORD_ERROR_NODE 15
+#define KUXHOVEZA_RECORD_ERROR_DETAIL 16
+#define KUXHOVEZA_RECORD_RESULT 17
+#define KUXHOVEZA_RECORD_STORED 21
+/* Stored signals: sequence, event id, signal, outcome, data. */
+#define KUXHOVEZA_RECORD_SIGNALS 22
+#define KUXHOVEZA_SIGNAL_WIDTH 5
+#define KUXHOVEZA_RECORD_VISITS 342
+/* Streaks: outcome, count. */
+#define KUXHOVEZA_RECORD_STREAKS 406
+#define KUXHOVEZA_STREAK_WIDTH 2
+/* Results of the nodes: visit, outcome, output. */
+#define KUXHOVEZA_RECORD_RESULTS 534
+#define KUXHOVEZA_RESULT_WIDTH 6
+
+/* Call. */
+#define KUXHOVEZA_CALL_CEILING_NODES 0
+#define KUXHOVEZA_CALL_CEILING_VISITS 1
+#define KUXHOVEZA_CALL_CEILING_ACTIVATIONS 2
+#define KUXHOVEZA_CALL_CEILING_ATTEMPTS 3
+#define KUXHOVEZA_CALL_LIMIT_MICROSTEPS 4
+#define KUXHOVEZA_CALL_LIMIT_COMMANDS 5
+#define KUXHOVEZA_CALL_LIMIT_OPERATIONS 6
+#define KUXHOVEZA_CALL_HAS_RECORD 7
+#define KUXHOVEZA_CALL_SEQUENCE 8
+#define KUXHOVEZA_CALL_ACCEPTED_AT 9
+#define KUXHOVEZA_CALL_EVENT_ID 10
+#define KUXHOVEZA_CALL_KIND 11
+#define KUXHOVEZA_CALL_INPUT 12
+#define KUXHOVEZA_CALL_SIGNAL 13
+#define KUXHOVEZA_CALL_OUTCOME 14
+#define KUXHOVEZA_CALL_DATA 15
+#define KUXHOVEZA_CALL_NODE 16
+#define KUXHOVEZA_CALL_VISIT 17
+#define KUXHOVEZA_CALL_ATTEMPT 18
+#define KUXHOVEZA_CALL_STATUS 19
+#define KUXHOVEZA_CALL_OUTPUT 20
+#define KUXHOVEZA_CALL_HAS_ERROR 21
+#define KUXHOVEZA_CALL_ERROR_CODE 22
+#define KUXHOVEZA_CALL_ERROR_DETAIL 23
+#define KUXHOVEZA_CALL_RETRYABLE 24
+#define KUXHOVEZA_CALL_DELAY 25
+#define KUXHOVEZA_CALL_RESOLUTION 26
+#define KUXHOVEZA_CALL_ANSWERED 27
+/* Mapping answers: kind, value, code, detail, operations. */
+#define KUXHOVEZA_CALL_MAPPINGS 28
+#define KUXHOVEZA_MAPPING_WIDTH 5
+
+/* Answer. Kind 1: the next record. */
+#define KUXHOVEZA_ANSWER_KIND 0
+#define KUXHOVEZA_ANSWER_MICROSTEPS 1
+#define KUXHOVEZA_ANSWER_ORDER 2
+#define KUXHOVEZA_ANSWER_ORDER_NODE 3
+#define KUXHOVEZA_ANSWER_ORDER_VISIT 4
+#define KUXHOVEZA_ANSWER_ORDER_ACTION 5
+#define KUXHOVEZA_ANSWER_ORDER_ATTEMPT 6
+#define KUXHOVEZA_ANSWER_ORDER_NOT_BEFORE 7
+#define KUXHOVEZA_ANSWER_ORDER_INPUT 8
+#define KUXHOVEZA_ANSWER_ORDER_HAS_PARAMS 9
+#define KUXHOVEZA_ANSWER_ORDER_PARAMS 10
+#define KUXHOVEZA_ANSWER_NOTED 11
+#define KUXHOVEZA_ANSWER_ENDED 12
+/* Notes: code, node, a, b, c. */
+#define KUXHOVEZA_ANSWER_NOTES 13
+#define KUXHOVEZA_NOTE_WIDTH 5
+/* Endings: sequence, ending. */
+#define KUXHOVEZA_ANSWER_ENDINGS 338
+#define KUXHOVEZA_ENDING_WIDTH 2
+#define KUXHOVEZA_ANSWER_RECORD 468
+/* Kind 2: a want, with the record at that moment. */
+#define KUXHOVEZA_ANSWER_WANT_NODE 1
+#define KUXHOVEZA_ANSWER_WANT_FIELD 2
+#define KUXHOVEZA_ANSWER_WANT_FROM 3
+/* Kind 3: a refusal. */
+#define KUXHOVEZA_ANSWER_REFUSAL_NUMBER 1
+#define KUXHOVEZA_ANSWER_REFUSAL_ITEM 2
+
+/* What kuxhoveza_transition returns. */
+#define KUXHOVEZA_WRITTEN 0
+#define KUXHOVEZA_SHORT_BUFFER 1
+#define KUXHOVEZA_BAD_CALL 2
+#define KUXHOVEZA_BAD_RECORD 3
+
+/* One call: writes the answer into the first KUXHOVEZA_ANSWER numbers of the buffer and returns KUXHOVEZA_WRITTEN.
+ * Or returns why not, and leaves the buffer as it was: it is shorter than that; the call has a number that its field
+ * can't hold; the record has one. The record is looked at only where number KUXHOVEZA_CALL_HAS_RECORD of the call is
+ * 1, and must be lent all the same. The buffer must not overlap the other arrays. */
+uint32_t kuxhoveza_transition(const uint32_t sheet[KUXHOVEZA_SHEET], const uint64_t call[KUXHOVEZA_CALL],
+                              const uint64_t record[KUXHOVEZA_RECORD], uint64_t *answer, size_t answer_len);
+
+/* The verdict on a sheet alone, under four ceilings: 0, or 256 times the refusal's number and its item. */
+uint64_t kuxhoveza_verdict(const uint32_t sheet[KUXHOVEZA_SHEET], uint32_t nodes, uint32_t visits,
+                           uint32_t activations, uint32_t attempts);
+
+#ifdef __cplusplus
+}
+#endif
+
+#endif
