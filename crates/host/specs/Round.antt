@@ -1,33 +1,24 @@
 -- A record that fits is read without loss: written again, it is the numbers that were read.
-use mathlib.Core.Path.{_≡_, refl, sym, _∙_, ap, ap₂}
+use mathlib.Core.Path.{_≡_, refl, ap}
 use mathlib.Core.Bool.{Bool, true, false, _&&_, _||_, false≢true}
-use mathlib.Core.List.{List, [], _∷_, _++_, flatMap, append-assoc}
+use mathlib.Core.List.{List, [], _∷_, _++_, flatMap}
 use Prim.Native.Nat.{ℕ, zero, suc, _+_, _*_, _-_, _%_, _^_, _≤_, _<_}
 use native.Mathlib.Nat.{mul-suc, mod-eq-of-lt}
 use native.Mathlib.Omega.{arith}
 use lib.ListN.{length}
 use lib.Dec.{ltb, eqb}
-use borrow.Author.Tests.{ltb-true, ltb-false, le-ltb, eqb-true, eqb-false}
-use Rattle.laws.specs.Bool.{if_then_else_, _and_, split, both}
+use borrow.Author.Tests.{ltb-true, le-ltb, eqb-true, eqb-false}
+use Rattle.laws.specs.Bool.{if_then_else_, split}
 use Rattle.laws.specs.Rows.{rows, span, rows-all}
-use Rattle.laws.specs.Every.{every, below}
-use Rattle.model.specs.declared.State.{State}
+use Rattle.laws.specs.Every.{below}
+use Rattle.laws.specs.In.{every-in, in-span, below-at}
 use Rattle.model.specs.Answers.{output-numbers, kept-numbers}
 use Rattle.host.specs.Read.{at, narrow, error-of, output-of, kept-of, signal-of, visits-of, streak-of, result-of, record-of, is-32, range-fits, output-fits, kept-fits, signal-fits, result-fits, record-fits}
 use Rattle.host.specs.Write.{signal-numbers, visits-numbers, streak-numbers, result-numbers, scalar-numbers, head-numbers, record-numbers}
 
--- What passes as one of a range.
 both-of : (a b : Bool) → (a && b) ≡ true → (a ≡ true) × (b ≡ true)
 both-of true b e = (refl, e)
 both-of false b e = absurd (false≢true e)
-
-every-row : {A : Type 0} (p : A → Bool) (f : ℕ → A) (i k n : ℕ) → every p (rows f i k) ≡ true → i ≤ n → n < i + k → p (f n) ≡ true
-unfolding every rows
-every-row p f i zero n e g h = absurd (omega arith)
-every-row p f i (suc k) n e g h = split (eqb n i) (λ t. rw (eqb-true n i t) (both _ _ e .0)) (λ t. let d = eqb-false n i t in every-row p f (i + 1) k n (both _ _ e .1) (later d) (omega arith))
-  where
-    later : (n ≡ i → ⊥) → i + 1 ≤ n
-    later d = split (ltb i n) (λ t. omega (arith, ltb-true i n t)) (λ t. absurd (d (omega (arith, ltb-false i n t))))
 
 small : (x : ℕ) → is-32 x ≡ true → narrow x ≡ x
 unfolding narrow
@@ -36,12 +27,8 @@ small x e = mod-eq-of-lt (ltb-true x (2 ^ 32) e)
 module _ (r : List ℕ) where
   -- a number of a range that fits
   whole : (i k n : ℕ) → range-fits r i k ≡ true → i ≤ n → n < k → narrow (at r n) ≡ at r n
-  unfolding range-fits span
-  whole i k n e g h = small (at r n) (every-row is-32 (at r) i (k - i) n e g (omega arith))
-
-  of-below : (p : ℕ → Bool) (n : ℕ) → below 64 p ≡ true → n < 64 → p n ≡ true
-  unfolding span
-  of-below p n e h = every-row p (λ i. i) 0 64 n e (omega arith) (omega arith)
+  unfolding range-fits
+  whole i k n e g h = small (at r n) (every-in is-32 e (in-span (at r) (k - i) i k n (omega arith) g h))
 
   -- RANGES JOINED: rows of numbers one behind the other are one range.
   rows-append : (i j k n : ℕ) → n ≡ i + j → rows (at r) i j ++ rows (at r) n k ≡ rows (at r) i (j + k)
@@ -165,7 +152,7 @@ module _ (r : List ℕ) (long : length r ≡ 918) (fits : record-fits r ≡ true
   signal : (i : ℕ) → i < 64 → signal-numbers (signal-of r i) ≡ rows (at r) (22 + 5 * i) 5
   unfolding signal-numbers signal-of rows signal-fits
   signal i h =
-      let f : (n : ℕ) → 23 + 5 * i ≤ n → n < 27 + 5 * i → narrow (at r n) ≡ at r n = λ n. whole r (23 + 5 * i) (27 + 5 * i) n (of-below r (signal-fits r) i (parts .signals) h) in
+      let f : (n : ℕ) → 23 + 5 * i ≤ n → n < 27 + 5 * i → narrow (at r n) ≡ at r n = λ n. whole r (23 + 5 * i) (27 + 5 * i) n (below-at 64 (signal-fits r) (parts .signals) i h) in
       let a : 22 + 5 * i + 1 ≡ 23 + 5 * i = omega arith in
       let b : 23 + 5 * i + 1 ≡ 24 + 5 * i = omega arith in
       let c : 24 + 5 * i + 1 ≡ 25 + 5 * i = omega arith in
@@ -187,7 +174,7 @@ module _ (r : List ℕ) (long : length r ≡ 918) (fits : record-fits r ≡ true
   result : (i : ℕ) → i < 64 → result-numbers (result-of r i) ≡ rows (at r) (534 + 6 * i) 6
   unfolding result-numbers result-of rows result-fits
   result i h =
-      let t = of-below r (result-fits r) i (parts .results) h in
+      let t = below-at 64 (result-fits r) (parts .results) i h in
       let f : (n : ℕ) → 534 + 6 * i ≤ n → n < 540 + 6 * i → narrow (at r n) ≡ at r n = λ n g l. high n (omega arith) (omega arith) in
       let o = output-back (at r (536 + 6 * i)) (at r (537 + 6 * i)) (at r (538 + 6 * i)) (at r (539 + 6 * i)) (f (537 + 6 * i) (omega arith) (omega arith)) (f (538 + 6 * i) (omega arith) (omega arith)) (f (539 + 6 * i) (omega arith) (omega arith)) t in
       let a : 534 + 6 * i + 1 ≡ 535 + 6 * i = omega arith in
