@@ -4,6 +4,7 @@ mod drive;
 use graph::Verdict;
 use graph::held;
 use model::State;
+use model::answer::Decision;
 use model::event::Event;
 use model::event::Limits;
 use model::event::Mappings;
@@ -15,7 +16,8 @@ ghost use Prim.Native.Nat.{_+_};
 ghost use lib.Dec.{eqb};
 ghost use Rattle.workflow.specs.View.{workflow};
 ghost use Rattle.graph.specs.Verdict.{verdict};
-ghost use Rattle.kernel.specs.Call.{given-record, start-stage, next-stage, admission, verdict-number};
+ghost use Rattle.kernel.specs.Call.{given-record, start-stage, next-stage, admission, verdict-number, transition};
+ghost use Rattle.kernel.specs.Decision.{decision-of};
 
 // What a call carries beside the sheet and the record.
 pub struct Call {
@@ -77,6 +79,24 @@ pub fn admit(w: &[u32; NUMBERS], has_record: bool, s: State, c: Call) -> Verdict
         return next_stage(w, s, c.event.kind, c.event.sequence);
     }
     start_stage(c.event.kind, c.event.sequence)
+}
+
+// One call: the record that comes next with its order, notes and endings; a want; or a refusal. Where there is no record,
+// s is not looked at.
+pub fn transition(w: &[u32; NUMBERS], has_record: bool, s: State, c: Call) -> Decision
+    ensures { λ r. ⌜ r ≡ decision-of (transition (workflow (now (w .entry))) (given-record «has_record» s) c) ⌝ }
+{
+    let verdict = admit(w, has_record, s, c);
+    if let Verdict::Broken { rule, item } = verdict {
+        return drive::refusal(rule, item);
+    }
+    let limits = c.limits;
+    let event = c.event;
+    let mappings = c.mappings;
+    if has_record {
+        return drive::drive(w, s, limits, event, mappings);
+    }
+    drive::drive(w, State::fresh(event.input), limits, event, mappings)
 }
 
 // The verdict on a sheet for hosts: 0, or 256 times the refusal's number and its item.
