@@ -9,3 +9,4 @@ pub mod Listing
 pub mod Settle
 pub mod Arrays
 pub mod Tests
+pub mod Splice

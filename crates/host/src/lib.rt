@@ -1,0 +1,53 @@
+// The boundary for hosts: a call, a run record and an answer as plain numbers (docs/NUMBERS.md).
+pub mod read;
+mod write;
+
+use crate::read::call_fits;
+use crate::read::read_call;
+use crate::read::read_record;
+use crate::read::record_fits;
+use crate::write::write_decision;
+use workflow::NUMBERS;
+ghost use mathlib.Core.Path.{_≡_};
+ghost use lib.ListN.{length};
+ghost use Rattle.host.specs.Host.{receipt, answered};
+
+// Whether an answer is written, and else why not. The record is looked at only where the call says that one goes with it.
+fn receipt(call: &[u64; 38], given: &[u64; 918], room: usize) -> u32
+    ensures { λ r. ⌜ r ≡ receipt (now (call .entry)) (now (given .entry)) room ⌝ }
+{
+    if room < 1386 {
+        return 1;
+    }
+    if call_fits(call) {
+        if call[7] == 1 {
+            if record_fits(given) {
+                return 0;
+            }
+            return 3;
+        }
+        return 0;
+    }
+    2
+}
+
+// One call: the answer's numbers are written to the buffer's beginning where the result is 0; else the buffer stays as it is.
+#[no_mangle]
+pub extern "C" fn kuxhoveza_transition(
+    sheet: &[u32; NUMBERS],
+    call: &[u64; 38],
+    given: &[u64; 918],
+    answer: &mut [u64],
+) -> u32
+    ensures { λ r. ⌜ r ≡ receipt (now (call .entry)) (now (given .entry)) (length (now (answer .entry))) ⌝ }
+    ensures { λ _. ⌜ now (answer .exit) ≡ answered (now (sheet .entry)) (now (call .entry)) (now (given .entry)) (now (answer .entry)) ⌝ }
+{
+    let receipt = receipt(call, given, answer.len());
+    if receipt == 0 {
+        let s = read_record(given);
+        let c = read_call(call);
+        let d = kernel::transition(sheet, call[7] == 1, s, c);
+        write_decision(answer, d);
+    }
+    receipt
+}
