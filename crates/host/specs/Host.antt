@@ -1,12 +1,14 @@
--- What the exported function answers.
+-- What the exported functions answer.
 use mathlib.Core.Bool.{not}
 use mathlib.Core.List.{List}
-use Prim.Native.Nat.{ℕ}
+use Prim.Native.Nat.{ℕ, _+_, _*_}
 use lib.ListN.{length}
 use lib.Dec.{ltb, eqb}
 use Rattle.laws.specs.Bool.{if_then_else_, _and_}
 use Rattle.laws.specs.Splice.{splice}
 use Rattle.workflow.specs.View.{workflow}
+use Rattle.graph.specs.declared.Verdict.{Verdict}
+use Rattle.graph.specs.declared.Verdict.the-variants.{Fine, Broken}
 use Rattle.model.specs.declared.answer.Decision.{Decision}
 use Rattle.kernel.specs.Call.{given-record, transition}
 use Rattle.kernel.specs.Decision.{decision-of}
@@ -26,3 +28,8 @@ decided w c r = decision-of (transition (workflow w) (given-record (has-record c
 -- The buffer: the answer stands at its beginning, or it is as it was.
 unfoldable pub answered : (sheet call given buffer : List ℕ) → List ℕ
 answered w c r b = if eqb (receipt c r (length b)) 0 then splice b 0 (decision-numbers (decided w c r)) else b
+
+-- A verdict as one number for hosts: 0, or 256 times the refusal's number and its item.
+unfoldable pub verdict-number : Verdict → ℕ
+verdict-number Fine = 0
+verdict-number (Broken k i) = k * 256 + i

@@ -7,10 +7,14 @@ use crate::read::read_call;
 use crate::read::read_record;
 use crate::read::record_fits;
 use crate::write::write_decision;
+use graph::Verdict;
+use workflow::Ceilings;
 use workflow::NUMBERS;
 ghost use mathlib.Core.Path.{_≡_};
 ghost use lib.ListN.{length};
-ghost use Rattle.host.specs.Host.{receipt, answered};
+ghost use Rattle.workflow.specs.View.{workflow};
+ghost use Rattle.graph.specs.Verdict.{verdict};
+ghost use Rattle.host.specs.Host.{receipt, answered, verdict-number};
 
 // Whether an answer is written, and else why not. The record is looked at only where the call says that one goes with it.
 fn receipt(call: &[u64; 38], given: &[u64; 918], room: usize) -> u32
@@ -50,4 +54,30 @@ pub extern "C" fn kuxhoveza_transition(
         write_decision(answer, d);
     }
     receipt
+}
+
+// The verdict on a sheet for hosts: 0, or 256 times the refusal's number and its item.
+#[no_mangle]
+pub extern "C" fn kuxhoveza_verdict(
+    w: &[u32; NUMBERS],
+    nodes: u32,
+    visits: u32,
+    activations: u32,
+    attempts: u32,
+) -> u64
+    ensures { λ r. ⌜ r ≡ verdict-number (verdict (workflow (now (w .entry))) (record { nodes = nodes; visits = visits; activations = activations; attempts = attempts })) ⌝ }
+{
+    let verdict = graph::validate(
+        w,
+        Ceilings {
+            nodes,
+            visits,
+            activations,
+            attempts,
+        },
+    );
+    match verdict {
+        Verdict::Fine => 0,
+        Verdict::Broken { rule, item } => (rule as u64) * 256 + (item as u64),
+    }
 }

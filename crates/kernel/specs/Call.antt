@@ -1,7 +1,7 @@
 -- A call, whole and in the order of document 01: sheet, event, record, step, finish.
 use mathlib.Core.Bool.{Bool, true, false, not}
 use mathlib.Core.List.{List, [], _∷_}
-use Prim.Native.Nat.{ℕ, _+_, _*_}
+use Prim.Native.Nat.{ℕ, _+_}
 use lib.Dec.{ltb, leb, eqb}
 use Rattle.laws.specs.Bool.{if_then_else_}
 use Rattle.workflow.specs.View.{Workflow}
@@ -87,11 +87,6 @@ record-stage f c (last s) = next-stage f s (c .event .kind) (c .event .sequence)
 -- The stages before the step, in their order.
 unfoldable pub admission : Workflow → Last → Call → Verdict
 admission f r c = first-broken (verdict f (c .ceilings) ∷ rule 21 (event-fits (c .event) (c .mappings)) ∷ record-stage f c r ∷ [])
-
--- A verdict as one number for hosts: 0, or 256 times the refusal's number and its item.
-unfoldable pub verdict-number : Verdict → ℕ
-verdict-number Fine = 0
-verdict-number (Broken k i) = k * 256 + i
 
 -- The record that a step starts at.
 abbrev pub given : Last → Call → State

@@ -15,8 +15,7 @@ ghost use mathlib.Core.Path.{_≡_};
 ghost use Prim.Native.Nat.{_+_};
 ghost use lib.Dec.{eqb};
 ghost use Rattle.workflow.specs.View.{workflow};
-ghost use Rattle.graph.specs.Verdict.{verdict};
-ghost use Rattle.kernel.specs.Call.{given-record, start-stage, next-stage, admission, verdict-number, transition};
+ghost use Rattle.kernel.specs.Call.{given-record, start-stage, next-stage, admission, transition};
 ghost use Rattle.kernel.specs.Decision.{decision-of};
 
 // What a call carries beside the sheet and the record.
@@ -97,30 +96,4 @@ pub fn transition(w: &[u32; NUMBERS], has_record: bool, s: State, c: Call) -> De
         return drive::drive(w, s, limits, event, mappings);
     }
     drive::drive(w, State::fresh(event.input), limits, event, mappings)
-}
-
-// The verdict on a sheet for hosts: 0, or 256 times the refusal's number and its item.
-#[no_mangle]
-pub extern "C" fn sheet_verdict(
-    w: &[u32; NUMBERS],
-    nodes: u32,
-    visits: u32,
-    activations: u32,
-    attempts: u32,
-) -> u64
-    ensures { λ r. ⌜ r ≡ verdict-number (verdict (workflow (now (w .entry))) (record { nodes = nodes; visits = visits; activations = activations; attempts = attempts })) ⌝ }
-{
-    let verdict = graph::validate(
-        w,
-        Ceilings {
-            nodes,
-            visits,
-            activations,
-            attempts,
-        },
-    );
-    match verdict {
-        Verdict::Fine => 0,
-        Verdict::Broken { rule, item } => (rule as u64) * 256 + (item as u64),
-    }
 }

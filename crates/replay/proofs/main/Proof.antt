@@ -3,10 +3,10 @@ use Rattle.replay.proofs.main.Statement.{statement}
 use Rattle.replay.proofs.main.Tie as tie
 
 abbrev Inv-loop : tie.InvT-loop
-Inv-loop sheet₀ call₀ record₀ answer₀ r₀ turns₀ t7 t8 t9 sheet call «record» answer r turns = Unit {0}
+Inv-loop sheet₀ call₀ record₀ answer₀ r₀ turns₀ t7 t8 t9 t10 t11 sheet call «record» answer r turns = Unit {0}
 
 abbrev μ-loop : tie.MeasureT-loop
-μ-loop sheet₀ call₀ record₀ answer₀ r₀ turns₀ t7 t8 t9 sheet call «record» answer r turns = turns
+μ-loop sheet₀ call₀ record₀ answer₀ r₀ turns₀ t7 t8 t9 t10 t11 sheet call «record» answer r turns = turns
 
 loop-holds : tie.Need-loop-holds Inv-loop μ-loop
 loop-holds c = search needs
@@ -47,6 +47,18 @@ slice-aggregate-say-3 c = search needs
 say-requires-3 : tie.Need-say-requires-3 Inv-loop μ-loop
 say-requires-3 c κs = search needs
 
+slice-aggregate-say-4 : tie.Need-slice-aggregate-say-4 Inv-loop μ-loop
+slice-aggregate-say-4 c = search needs
+
+say-requires-4 : tie.Need-say-requires-4 Inv-loop μ-loop
+say-requires-4 c κs = search needs
+
+slice-aggregate-say-5 : tie.Need-slice-aggregate-say-5 Inv-loop μ-loop
+slice-aggregate-say-5 c = search needs
+
+say-requires-5 : tie.Need-say-requires-5 Inv-loop μ-loop
+say-requires-5 c κs = search needs
+
 returns : tie.Need-returns Inv-loop μ-loop
 returns c = search needs
 
@@ -69,4 +81,8 @@ main-spec =
     say-requires-2
     slice-aggregate-say-3
     say-requires-3
+    slice-aggregate-say-4
+    say-requires-4
+    slice-aggregate-say-5
+    say-requires-5
     returns)
