@@ -161,15 +161,12 @@ module _ {A : Type 0} (r : A → A → Bool) (f : ℕ → A) (k : ℕ) where
 abbrev pub column : List ℕ → (start slot : ℕ) → ℕ
 column w c j = getD w (c + j) 0
 
--- The number of rows before a pair, and before a key; the first row of a pair.
+-- The number of rows before a pair, and before a key.
 unfoldable pub rows-before : List ℕ → (major minor count x y : ℕ) → ℕ
 rows-before w a b k x y = cut (λ j. ascends (column w a j) (column w b j) x y) k
 
 unfoldable pub rows-below : List ℕ → (start count key : ℕ) → ℕ
 rows-below w c k n = cut (λ j. ltb (column w c j) n) k
-
-unfoldable pub row-of : List ℕ → (major minor count x y : ℕ) → ℕ
-row-of w a b k x y = cut (λ j. not (are (column w a j) (column w b j) x y)) k
 
 -- What a search for a pair needs: the rows before it stand first.
 pub record Halved (w : List ℕ) (a b k x y : ℕ) : Type 0 where
@@ -274,49 +271,6 @@ module _ {w : List ℕ} {c k from : ℕ} (key : ℕ) (rising : Rising w c k) (fi
         let l = inv .within in
         the-cut (record { within = omega arith; below = λ j g. inv .below j (omega arith); fails = λ g. absurd (omega arith) })
 
--- A row and the first row.
-apart : {a b x y : ℕ} → Ascends a b x y → are a b x y ≡ false
-unfolding are _and_
-apart {a} {b} {x} {y} (by-node h) = rw (ne-eqb a x (λ e. omega arith))
-apart {a} {b} {x} {y} (by-outcome e h) = rw (eq-eqb a x e, ne-eqb b y (λ e. omega arith))
-
-module _ {w : List ℕ} {a b k c : ℕ} (x y : ℕ) (s : Ascending w a b k) (e : c ≡ rows-before w a b k x y) where
-  it : Cut (λ j. ascends (column w a j) (column w b j) x y) k c
-  unfolding rows-before
-  it = rw e (cuts _ k)
-
-  others : (j : ℕ) → j < c → not (are (column w a j) (column w b j) x y) ≡ true
-  others j h = ap not (apart (ascended _ _ x y (it .below j h)))
-
-  -- it is none of the rows
-  pub row-past : k ≤ c → k ≡ row-of w a b k x y
-  unfolding row-of
-  row-past h = the-cut (record { within = omega arith; below = λ j l. others j (omega arith); fails = λ l. absurd (omega arith) })
-
-  -- it is the row there
-  pub row-here : c < k → are (column w a c) (column w b c) x y ≡ true → c ≡ row-of w a b k x y
-  unfolding row-of
-  row-here h t = the-cut (record { within = omega arith; below = others; fails = λ l. ap not t })
-
-  -- the row there is another, and the later ones are past it
-  later : (j : ℕ) → c < j → j < k → are (column w a j) (column w b j) x y ≡ true → ⊥
-  unfolding are
-  later j l h t =
-      let q = both _ _ t in
-      let m : column w a j ≡ x = eqb-true _ _ (q .0) in
-      let n : column w b j ≡ y = eqb-true _ _ (q .1) in
-      let f : ascends (column w a c) (column w b c) x y ≡ true = rw (← m, ← n) (s .ascend c j l h) in
-      false≢true (sym (it .fails (omega arith)) ∙ f)
-
-  pub row-other : c < k → are (column w a c) (column w b c) x y ≡ false → k ≡ row-of w a b k x y
-  unfolding row-of
-  row-other h t = the-cut (record { within = omega arith; below = λ j l. at-place j l; fails = λ l. absurd (omega arith) })
-    where
-      at-place : (j : ℕ) → j < k → not (are (column w a j) (column w b j) x y) ≡ true
-      at-place j l =
-          split (ltb j c) (λ g. others j (ltb-true j c g))
-          (λ g. at-or-before c j (ltb-false j c g) (λ z. rw (← z) (ap not t)) (λ z. split (are (column w a j) (column w b j) x y) (λ u. absurd (later j z l u)) (λ u. ap not u)))
-
 -- THE FIRST ROW THAT PASSES, over the rows from i on.
 module _ {A B : Type 0} (q : A → Bool) (v : ℕ → A → B) (e : B) (f : ℕ → A) (k : ℕ) where
   pub first-skip : (m i : ℕ) → i + m ≤ k → ((j : ℕ) → i ≤ j → j < i + m → q (f j) ≡ false) → first q v e i (span f i k) ≡ first q v e (i + m) (span f (i + m) k)
@@ -385,14 +339,13 @@ parts-of f e =
     }
 
 -- A TABLE of rows with a node, an outcome and a value, column by column.
-record Table {A : Type 0} (w : List ℕ) (a b t k : ℕ) (f : ℕ → A) (node outcome value : A → ℕ) : Type 0 where
+record Table {A : Type 0} (w : List ℕ) (a b k : ℕ) (f : ℕ → A) (node outcome : A → ℕ) : Type 0 where
   major-fits : a + k ≤ 4169
   minor-fits : b + k ≤ 4169
   nodes : (j : ℕ) → j < k → node (f j) ≡ column w a j
   outcomes : (j : ℕ) → j < k → outcome (f j) ≡ column w b j
-  values : (j : ℕ) → j < k → value (f j) ≡ column w t j
 
-module _ {A : Type 0} {w : List ℕ} {a b t k : ℕ} {f : ℕ → A} {node outcome value : A → ℕ} (table : Table w a b t k f node outcome value) where
+module _ {A : Type 0} {w : List ℕ} {a b k : ℕ} {f : ℕ → A} {node outcome : A → ℕ} (table : Table w a b k f node outcome) where
   table-ascends : chained (λ x y. ascends (node x) (outcome x) (node y) (outcome y)) (span f 0 k) ≡ true → Ascending w a b k
   table-ascends s =
       record {
@@ -402,21 +355,6 @@ module _ {A : Type 0} {w : List ℕ} {a b t k : ℕ} {f : ℕ → A} {node outco
             rw (table .nodes i (omega arith), table .outcomes i (omega arith), table .nodes j h, table .outcomes j h)
             at (pairwise (λ x y. ascends (node x) (outcome x) (node y) (outcome y)) f k (λ x y z. ascends-on (node x) (outcome x) (node y) (outcome y) (node z) (outcome z)) s i j l h);
       }
-
-  -- a lookup by the row of a pair, with the count n and the row c that the code has
-  module _ (x y : ℕ) {n c : ℕ} (e : n ≡ k) (r : c ≡ row-of w a b n x y) where
-    same-rows : (j : ℕ) → j < k → are (node (f j)) (outcome (f j)) x y ≡ are (column w a j) (column w b j) x y
-    same-rows j h = rw (table .nodes j h, table .outcomes j h)
-
-    the-row : c ≡ cut (λ j. not (are (column w a j) (column w b j) x y)) k
-    unfolding row-of
-    the-row = rw e at r
-
-    found-row : c < n → At (column w t c) ≡ first (λ z. are (node z) (outcome z) x y) (λ _ z. At (value z)) Nothing 0 (span f 0 k)
-    found-row h = ap At (sym (table .values c (omega arith))) ∙ first-at _ (λ _ z. At (value z)) Nothing f k _ same-rows the-row (omega arith)
-
-    no-row : n ≤ c → Nothing ≡ first (λ z. are (node z) (outcome z) x y) (λ _ z. At (value z)) Nothing 0 (span f 0 k)
-    no-row h = first-none _ (λ _ z. At (value z)) Nothing f k _ same-rows the-row (omega arith)
 
 -- How many rows there are.
 abbrev pub route-rows : List ℕ → ℕ
@@ -441,24 +379,22 @@ module _ (w : List ℕ) where
   unfolding declared-at
   declared-row j h = if-true _ _ _ (lt-ltb j declared-room (omega arith))
 
-  route-table : Table w 457 969 1481 (route-rows w) (route-at w) (λ x. x .node) (λ x. x .outcome) (λ x. x .target)
+  route-table : Table w 457 969 (route-rows w) (route-at w) (λ x. x .node) (λ x. x .outcome)
   route-table =
       record {
         major-fits = omega arith;
         minor-fits = omega arith;
         nodes = λ j h. rw (route-row j h);
         outcomes = λ j h. rw (route-row j h);
-        values = λ j h. rw (route-row j h);
       }
 
-  limit-table : Table w 1993 2505 3017 (limit-rows w) (limit-at w) (λ x. x .node) (λ x. x .outcome) (λ x. x .limit)
+  limit-table : Table w 1993 2505 (limit-rows w) (limit-at w) (λ x. x .node) (λ x. x .outcome)
   limit-table =
       record {
         major-fits = omega arith;
         minor-fits = omega arith;
         nodes = λ j h. rw (limit-row j h);
         outcomes = λ j h. rw (limit-row j h);
-        values = λ j h. rw (limit-row j h);
       }
 
   module _ (s : Sorted (workflow w)) where
@@ -476,20 +412,3 @@ module _ (w : List ℕ) where
               at-or-before i j l (λ q. rw q (omega arith))
               (λ g. leb-true _ _ (rw (declared-row i (omega arith), declared-row j h) at (pairwise declared-before (declared-at w) (declared-rows w) (λ x y z. leb-on (x .action) (y .action) (z .action)) (s .declared) i j g h)));
         }
-
-  module _ (x y : ℕ) {n c : ℕ} where
-    pub route-here : n ≡ route-rows w → c ≡ row-of w 457 969 n x y → c < n → At (column w 1481 c) ≡ route-of (workflow w) x y
-    unfolding route-of
-    route-here = found-row route-table x y
-
-    pub no-route-here : n ≡ route-rows w → c ≡ row-of w 457 969 n x y → n ≤ c → Nothing ≡ route-of (workflow w) x y
-    unfolding route-of
-    no-route-here = no-row route-table x y
-
-    pub limit-here : n ≡ limit-rows w → c ≡ row-of w 1993 2505 n x y → c < n → At (column w 3017 c) ≡ limit-of (workflow w) x y
-    unfolding limit-of
-    limit-here = found-row limit-table x y
-
-    pub no-limit-here : n ≡ limit-rows w → c ≡ row-of w 1993 2505 n x y → n ≤ c → Nothing ≡ limit-of (workflow w) x y
-    unfolding limit-of
-    no-limit-here = no-row limit-table x y

@@ -14,9 +14,9 @@ ghost use mathlib.Core.Path.{_≡_};
 ghost use Prim.Native.Nat.{_<_, max};
 ghost use Rattle.laws.specs.Shift.{without};
 ghost use Rattle.workflow.specs.Code.{store};
-ghost use Rattle.model.specs.Record.{no-position, no-invocation, no-signal, fresh, visits-of, with-visits, streak-of, with-streak, with-result, seen, placed, finished, is-terminal};
+ghost use Rattle.model.specs.Record.{no-position, no-invocation, no-signal, fresh, visits-of, finished, is-terminal};
 ghost use Rattle.model.specs.Answers.{output-numbers, kept-numbers};
-ghost use Rattle.model.specs.Store.{first-signal, signal-at, removed, appended};
+ghost use Rattle.model.specs.Store.{first-signal, signal-at, removed};
 
 pub struct ErrorInfo {
     pub code: u32,
@@ -210,71 +210,6 @@ impl State {
         Visits { count: 0 }
     }
 
-    // One more visit of a node, and one more activation.
-    pub fn with_visits(mut self, node: u32, count: u32, activations: u32) -> State
-        ensures { λ r. ⌜ r ≡ with-visits self node count activations ⌝ }
-    {
-        self.activations = activations;
-        let n = node as usize;
-        if n < NODES {
-            self.visits[n] = Visits { count: count };
-        }
-        self
-    }
-
-    pub fn streak_of(self, node: u32) -> Streak
-        ensures { λ r. ⌜ r ≡ streak-of self node ⌝ }
-    {
-        let n = node as usize;
-        if n < NODES {
-            return self.streaks[n];
-        }
-        Streak {
-            outcome: 0,
-            count: 0,
-        }
-    }
-
-    pub fn with_streak(mut self, node: u32, streak: Streak) -> State
-        ensures { λ r. ⌜ r ≡ with-streak self node streak ⌝ }
-    {
-        let n = node as usize;
-        if n < NODES {
-            self.streaks[n] = streak;
-        }
-        self
-    }
-
-    pub fn with_result(mut self, node: u32, result: NodeResult) -> State
-        ensures { λ r. ⌜ r ≡ with-result self node result ⌝ }
-    {
-        let n = node as usize;
-        if n < NODES {
-            self.results[n] = result;
-        }
-        self
-    }
-
-    // The event is taken note of: its sequence, and the larger of the two times.
-    pub fn seen(mut self, sequence: u64, accepted_at: u64) -> State
-        ensures { λ r. ⌜ r ≡ seen self sequence «accepted_at» ⌝ }
-    {
-        self.last_sequence = sequence;
-        let later = later(self.last_accepted_at, accepted_at);
-        self.last_accepted_at = later;
-        self
-    }
-
-    // Where the run stands, and with which invocation.
-    pub fn placed(mut self, status: u32, position: Position, invocation: InvocationState) -> State
-        ensures { λ r. ⌜ r ≡ placed self status position invocation ⌝ }
-    {
-        self.status = status;
-        self.position = position;
-        self.invocation = invocation;
-        self
-    }
-
     // The run ends.
     pub fn finished(mut self, status: u32, result: RunResult) -> State
         ensures { λ r. ⌜ r ≡ finished self status result ⌝ }
@@ -324,19 +259,6 @@ impl State {
         let rest = shifted(old, n);
         self.signals = rest;
         self.signal_count = self.signal_count - 1;
-        self
-    }
-
-    // The signal is stored behind the others; a full store stays as it is.
-    pub fn append_signal(mut self, signal: BufferedSignal) -> State
-        ensures { λ r. ⌜ r ≡ appended self signal ⌝ }
-    {
-        let n = self.signal_count as usize;
-        if code::STORE <= n {
-            return self;
-        }
-        self.signals[n] = signal;
-        self.signal_count = self.signal_count + 1;
         self
     }
 }
