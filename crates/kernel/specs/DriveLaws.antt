@@ -4,9 +4,9 @@ use mathlib.Core.Bool.{Bool, true, false}
 use mathlib.Core.List.{List, [], _∷_, _++_}
 use Prim.Native.Nat.{ℕ, zero, suc, _+_, _-_, _*_, _≤_, _<_}
 use native.Mathlib.Omega.{arith}
-use lib.Dec.{eqb, ltb, leb}
+use lib.Dec.{eqb, ltb}
 use lib.ListN.{length, take, set, getD, replicate, length-append}
-use borrow.Author.Tests.{lt-ltb, le-ltb, lt-leb}
+use borrow.Author.Tests.{eq-eqb, ne-eqb, lt-ltb, le-ltb}
 use Rattle.laws.specs.Bool.{if_then_else_, if-true, if-false, split}
 use Rattle.laws.specs.Settle.{settle, Settling, settled, settle-next}
 use Rattle.laws.specs.Listing.{padded, Listing, listing-none, listing-more}
@@ -32,7 +32,6 @@ use Rattle.workflow.specs.Code.{none}
 use Rattle.model.specs.Record.{fresh}
 use Rattle.model.specs.Store.{first-signal, signal-at, removed}
 use Rattle.model.specs.Step.{no-note, no-ending, no-mapping, still, arrival, enter, take-signal, apply}
-use Rattle.kernel.specs.declared.drive.Log.{Log}
 use Rattle.kernel.specs.Drive.{Machine, operations-of, add-note, add-ending, made, refused, counting, consume-by, advance-by, advance, moves-on, is-moving, applied, driven}
 use Rattle.kernel.specs.Bounds.{same-notes, same-endings, Bounds, Bounded, bounded-advance, bounded-applied}
 use Rattle.kernel.specs.Call as call
@@ -73,39 +72,10 @@ answer-of Consume o l k n = rest-answer Order.Nothing l k n
 answer-of (Wants t i b) o l k n = code.Answer.Wants t i b
 answer-of (Refuse r) o l k n = code.Answer.Refused r none
 
--- What a call has said so far: no more than 65 notes, and as many endings.
-abbrev logged : List Note → List Ending → (operations note-count ending-count : ℕ) → Log
-logged ns es q n k = record { notes = ns; endings = es; operations = q; «note_count» = n; «ending_count» = k }
-
-abbrev pub no-log : Log
-no-log = logged (replicate 65 no-note) (replicate 65 no-ending) 0 0 0
-
-unfoldable pub noted : Log → Note → Log
-noted g x =
-    if eqb (x .code) 0 then g else
-    if leb 65 (g .«note_count») then g else
-    logged (set (g .notes) (g .«note_count») x) (g .endings) (g .operations) (g .«note_count» + 1) (g .«ending_count»)
-
-unfoldable pub ended : Log → Ending → Log
-ended g x =
-    if eqb (x .ending) 0 then g else
-    if leb 65 (g .«ending_count») then g else
-    logged (g .notes) (set (g .endings) (g .«ending_count») x) (g .operations) (g .«note_count») (g .«ending_count» + 1)
-
-abbrev with-operations : Log → ℕ → Log
-with-operations g q = logged (g .notes) (g .endings) q (g .«note_count») (g .«ending_count»)
-
-unfoldable pub said : Log → Note → Ending → (operations : ℕ) → Log
-said g x y q = with-operations (ended (noted g x) y) (g .operations + q)
-
-unfoldable pub decide-by : code.Answer → Log → State → Decision
-decide-by (code.Answer.Next o j) g s =
-    record { notes = g .notes; endings = g .endings; «note_count» = g .«note_count»; «ending_count» = g .«ending_count»; answer = code.Answer.Next o j; state = s }
-decide-by (code.Answer.Wants t i b) g s = decision-of (wants t i b s)
-decide-by (code.Answer.Refused r i) g s = decision-of (call.refused r i)
-
-abbrev pub decide : Log → Next → Order → Limits → (microsteps : ℕ) → State → Decision
-decide g n o l j s = decide-by (answer-of n o l j (g .operations)) g s
+unfoldable pub decide : List Note → List Ending → (note-count ending-count : ℕ) → State → code.Answer → Decision
+decide ns es n k s (code.Answer.Next o j) = record { notes = ns; endings = es; «note_count» = n; «ending_count» = k; answer = code.Answer.Next o j; state = s }
+decide ns es n k s (code.Answer.Wants t i b) = decision-of (wants t i b s)
+decide ns es n k s (code.Answer.Refused r i) = decision-of (call.refused r i)
 
 -- The operations of the answers that were read.
 module _ (xs : List Mapping) (two : length xs ≡ 2) where
@@ -134,38 +104,25 @@ module _ (xs : List Mapping) (two : length xs ≡ 2) where
       both (y ∷ (z ∷ [])) (suc i) h = omega arith
       both (y ∷ (z ∷ (w ∷ ys))) i h = absurd (omega arith)
 
--- The log holds these notes, endings and operations.
-pub record Logs (g : Log) (ns : List Note) (es : List Ending) (q : ℕ) : Type 0 where
-  pub notes-are : Listing no-note 65 (g .notes) (g .«note_count») ns
-  pub endings-are : Listing no-ending 65 (g .endings) (g .«ending_count») es
-  pub operations-are : g .operations ≡ q
+-- A note or an ending, with its code, is listed if it is one.
+abbrev added : {A : Type 0} → (code : ℕ) → List A → A → List A
+added c xs x = if eqb c 0 then xs else (xs ++ (x ∷ []))
 
-logs-none : Logs no-log [] [] 0
-logs-none = record { notes-are = listing-none no-note; endings-are = listing-none no-ending; operations-are = refl }
+module _ {A : Type 0} {d : A} {array : List A} {n : ℕ} {xs : List A} (l : Listing d 65 array n xs) (c : ℕ) (x : A) where
+  listing-same : c ≤ 0 → Listing d 65 array n (added c xs x)
+  unfolding if_then_else_
+  listing-same h = rw (eq-eqb c 0 (omega arith)) l
 
-module _ {g : Log} {ns : List Note} {es : List Ending} {q : ℕ} (l : Logs g ns es q) where
-  logs-noted : (x : Note) → length (add-note ns x) ≤ 65 → Logs (noted g x) (add-note ns x) es q
-  unfolding noted add-note if_then_else_
-  logs-noted x r =
-      split (eqb (x .code) 0) (λ h. rw h l)
-      (λ h. let w : length (ns ++ (x ∷ [])) ≤ 65 = rw h at r in
-      let z : g .«note_count» < 65 = omega (arith, length-append ns (x ∷ []), l .notes-are .count) in
-      rw (h, lt-leb 65 (g .«note_count») z) (record { notes-are = listing-more no-note x z (l .notes-are); endings-are = l .endings-are; operations-are = l .operations-are }))
+  listing-room : 0 < c → length (added c xs x) ≤ 65 → n < 65
+  unfolding if_then_else_
+  listing-room h r =
+      let e : eqb c 0 ≡ false = ne-eqb c 0 (λ z. omega arith) in
+      let w : length (xs ++ (x ∷ [])) ≤ 65 = rw e at r in
+      omega (arith, length-append xs (x ∷ []), l .count)
 
-  logs-ended : (x : Ending) → length (add-ending es x) ≤ 65 → Logs (ended g x) ns (add-ending es x) q
-  unfolding ended add-ending if_then_else_
-  logs-ended x r =
-      split (eqb (x .ending) 0) (λ h. rw h l)
-      (λ h. let w : length (es ++ (x ∷ [])) ≤ 65 = rw h at r in
-      let z : g .«ending_count» < 65 = omega (arith, length-append es (x ∷ []), l .endings-are .count) in
-      rw (h, lt-leb 65 (g .«ending_count») z) (record { notes-are = l .notes-are; endings-are = listing-more no-ending x z (l .endings-are); operations-are = l .operations-are }))
-
-logs-said : {g : Log} {ns : List Note} {es : List Ending} {q : ℕ} → Logs g ns es q → (x : Note) (y : Ending) (r : ℕ) → length (add-note ns x) ≤ 65 → length (add-ending es y) ≤ 65
-    → Logs (said g x y r) (add-note ns x) (add-ending es y) (q + r)
-unfolding said
-logs-said l x y r a b =
-    let h = logs-ended (logs-noted l x a) y b in
-    record { notes-are = h .notes-are; endings-are = h .endings-are; operations-are = omega (arith, l .operations-are) }
+  listing-added : 0 < c → length (added c xs x) ≤ 65 → Listing d 65 (set array n x) (n + 1) (added c xs x)
+  unfolding if_then_else_
+  listing-added h r = rw (ne-eqb c 0 (λ z. omega arith)) (listing-more d x (listing-room h r) l)
 
 -- THE LOOP, of one call on one sheet.
 module _ (f : Workflow) (l : Limits) (e : Event) (m : Mappings) (v₀ : Move) where
@@ -186,34 +143,95 @@ module _ (f : Workflow) (l : Limits) (e : Event) (m : Mappings) (v₀ : Move) wh
   abbrev Runs : (left : ℕ) → Machine → Type 0
   Runs left x = Settling (is-moving f (l .microsteps) e m) (advance f (l .microsteps) e m) at-end left x
 
-  first-bounds : (s : State) → s .«signal_count» ≤ 64 → v₀ ≡ apply f s e → Bounds (v₀ .next) 131 begun
-  first-bounds s r h = rw h (bounded-applied f (l .microsteps) e m s r)
+  -- The first move leaves room for what follows.
+  abbrev pub Begins : Type 0
+  Begins = Bounds (v₀ .next) 131 begun
 
-  -- What stands at the head of the loop, with so many moves left.
-  pub record Driving (left : ℕ) (v : Move) (g : Log) (microsteps : ℕ) : Type 0 where
+  pub begins : (s : State) → s .«signal_count» ≤ 64 → v₀ ≡ apply f s e → Begins
+  begins s r h = rw h (bounded-applied f (l .microsteps) e m s r)
+
+  -- The code's variables and the machine, after a move and so many microsteps.
+  pub record Listed (v : Move) (notes : List Note) (endings : List Ending) (note-count ending-count operations microsteps : ℕ) : Type 0 where
     pub ns : List Note
     pub es : List Ending
-    pub logs : Logs g ns es (g .operations)
-    pub runs : Runs left (machine (v .state) (v .next) (v .order) ns es microsteps (g .operations))
-    pub bounds : Bounds (v .next) left (machine (v .state) (v .next) (v .order) ns es microsteps (g .operations))
-    pub few : g .operations + left * 8589934592 ≤ 1133871366144
+    pub notes-are : Listing no-note 65 notes note-count ns
+    pub endings-are : Listing no-ending 65 endings ending-count es
+    pub runs : Runs (131 - microsteps) (machine (v .state) (v .next) (v .order) ns es microsteps operations)
+    pub bounds : Bounds (v .next) (131 - microsteps) (machine (v .state) (v .next) (v .order) ns es microsteps operations)
+    pub few : operations ≤ (microsteps + 1) * 8589934592
 
-  -- The event is applied.
-  pub driving-first : (s : State) (r : ℕ) → s .«signal_count» ≤ 64 → v₀ ≡ apply f s e → r ≡ operations-of (take (v₀ .answers) (m .answers)) → r ≤ 8589934592
-      → (g : Log) → g ≡ said no-log (v₀ .note) (v₀ .ending) r → Driving 131 v₀ g 0
-  driving-first s r h e₀ z w g u =
-      let b = first-bounds s h e₀ in
-      let l = logs-said logs-none (v₀ .note) (v₀ .ending) r (omega (arith, b .few-notes)) (omega (arith, b .few-endings)) in
-      let k : Logs g (add-note [] (v₀ .note)) (add-ending [] (v₀ .ending)) (0 + r) = rw u l in
-      let q : g .operations ≡ 0 + operations-of (take (v₀ .answers) (m .answers)) = omega (arith, k .operations-are) in
+  -- At the head of the loop, where what the move says is not yet listed.
+  pub record Driving (v : Move) (notes : List Note) (endings : List Ending) (note-count ending-count operations microsteps : ℕ) : Type 0 where
+    pub ns : List Note
+    pub es : List Ending
+    pub notes-are : Listing no-note 65 notes note-count ns
+    pub endings-are : Listing no-ending 65 endings ending-count es
+    pub runs : Runs (131 - microsteps) (machine (v .state) (v .next) (v .order) (add-note ns (v .note)) (add-ending es (v .ending)) microsteps (operations + operations-of (take (v .answers) (m .answers))))
+    pub bounds : Bounds (v .next) (131 - microsteps) (machine (v .state) (v .next) (v .order) (add-note ns (v .note)) (add-ending es (v .ending)) microsteps (operations + operations-of (take (v .answers) (m .answers))))
+    pub few : operations ≤ microsteps * 8589934592
+
+  pub driving-first : (x : Note) (y : Ending) → x ≡ no-note → y ≡ no-ending → Begins → Driving v₀ (replicate 65 x) (replicate 65 y) 0 0 0 0
+  driving-first x y h k b =
       record {
-        ns = add-note [] (v₀ .note);
-        es = add-ending [] (v₀ .ending);
-        logs = record { notes-are = k .notes-are; endings-are = k .endings-are; operations-are = refl };
-        runs = rw q (record { left = refl });
-        bounds = rw q b;
-        few = omega (arith, k .operations-are);
+        ns = [];
+        es = [];
+        notes-are = rw h (listing-none no-note);
+        endings-are = rw k (listing-none no-ending);
+        runs = record { left = refl };
+        bounds = b;
+        few = omega arith;
       }
+
+  -- What the move says is listed.
+  module _ {v : Move} {notes : List Note} {endings : List Ending} {n k q j : ℕ} (d : Driving v notes endings n k q j) where
+    abbrev note-arrived : List Note → ℕ → Type 0
+    note-arrived a i = Listing no-note 65 a i (add-note (d .ns) (v .note))
+
+    abbrev ending-arrived : List Ending → ℕ → Type 0
+    ending-arrived a i = Listing no-ending 65 a i (add-ending (d .es) (v .ending))
+
+    notes-fit : length (add-note (d .ns) (v .note)) ≤ 65
+    notes-fit = omega (arith, d .bounds .few-notes)
+
+    endings-fit : length (add-ending (d .es) (v .ending)) ≤ 65
+    endings-fit = omega (arith, d .bounds .few-endings)
+
+    pub note-room : 0 < v .note .code → n < 65
+    unfolding add-note
+    note-room h = listing-room (d .notes-are) (v .note .code) (v .note) h notes-fit
+
+    pub note-more : {a : List Note} {i : ℕ} → 0 < v .note .code → a ≡ set notes n (v .note) → i ≡ n + 1 → note-arrived a i
+    unfolding add-note
+    note-more h e g = rw (e, g) (listing-added (d .notes-are) (v .note .code) (v .note) h notes-fit)
+
+    pub note-same : {a : List Note} {i : ℕ} → v .note .code ≤ 0 → a ≡ notes → i ≡ n → note-arrived a i
+    unfolding add-note
+    note-same h e g = rw (e, g) (listing-same (d .notes-are) (v .note .code) (v .note) h)
+
+    pub ending-room : 0 < v .ending .ending → k < 65
+    unfolding add-ending
+    ending-room h = listing-room (d .endings-are) (v .ending .ending) (v .ending) h endings-fit
+
+    pub ending-more : {a : List Ending} {i : ℕ} → 0 < v .ending .ending → a ≡ set endings k (v .ending) → i ≡ k + 1 → ending-arrived a i
+    unfolding add-ending
+    ending-more h e g = rw (e, g) (listing-added (d .endings-are) (v .ending .ending) (v .ending) h endings-fit)
+
+    pub ending-same : {a : List Ending} {i : ℕ} → v .ending .ending ≤ 0 → a ≡ endings → i ≡ k → ending-arrived a i
+    unfolding add-ending
+    ending-same h e g = rw (e, g) (listing-same (d .endings-are) (v .ending .ending) (v .ending) h)
+
+    pub listed : {a : List Note} {b : List Ending} {i o : ℕ} → note-arrived a i → ending-arrived b o → (r : ℕ)
+        → r ≡ operations-of (take (v .answers) (m .answers)) → r ≤ 8589934592 → Listed v a b i o (q + r) j
+    listed x y r h z =
+        record {
+          ns = add-note (d .ns) (v .note);
+          es = add-ending (d .es) (v .ending);
+          notes-are = x;
+          endings-are = y;
+          runs = rw h (d .runs);
+          bounds = rw h (d .bounds);
+          few = omega (arith, d .few);
+        }
 
   -- A signal is found, or none is looked for: a microstep.
   moves : (t : State) (i : ℕ) (n : Next) → place-of f t n ≡ At i → moves-on f (l .microsteps) e m n ≡ true
@@ -235,14 +253,24 @@ module _ (f : Workflow) (l : Limits) (e : Event) (m : Mappings) (v₀ : Move) wh
   is-counted t i (Wants n j b) x z h = let w : _≡_ {A = ℕ} 0 1 = cc in absurd (omega arith)
   is-counted t i (Refuse k) x z h = let w : _≡_ {A = ℕ} 0 1 = cc in absurd (omega arith)
 
-  module _ {left : ℕ} {v : Move} {g : Log} {j : ℕ} (d : Driving left v g j) where
+  some-left : (t : State) (i : ℕ) (n : Next) (left : ℕ) (x : Machine) → place-of f t n ≡ At i → Bounds n left x → 0 < left
+  unfolding place-of
+  some-left t i Rest left x h b = let z : _≡_ {A = ℕ} 0 1 = cc in absurd (omega arith)
+  some-left t i (Enter n c) left x h b = omega (arith, b .enough)
+  some-left t i Take left x h b = omega (arith, b .enough)
+  some-left t i Consume left x h b = omega (arith, b .enough)
+  some-left t i (Wants n j c) left x h b = let z : _≡_ {A = ℕ} 0 1 = cc in absurd (omega arith)
+  some-left t i (Refuse k) left x h b = let z : _≡_ {A = ℕ} 0 1 = cc in absurd (omega arith)
+
+  module _ {v : Move} {notes : List Note} {endings : List Ending} {n k q j : ℕ} (d : Listed v notes endings n k q j) where
     abbrev x : Machine
-    x = machine (v .state) (v .next) (v .order) (d .ns) (d .es) j (g .operations)
+    x = machine (v .state) (v .next) (v .order) (d .ns) (d .es) j q
 
     -- Over the limit.
-    pub driving-over : (i : ℕ) → 0 < left → place-of f (v .state) (v .next) ≡ At i → l .microsteps ≤ j → decision-of (call.refused 26 none) ≡ decision-of (finish l at-end)
+    pub driving-over : (i : ℕ) → place-of f (v .state) (v .next) ≡ At i → l .microsteps ≤ j → decision-of (call.refused 26 none) ≡ decision-of (finish l at-end)
     unfolding counting finish-by
-    driving-over i p h o =
+    driving-over i h o =
+        let p = some-left (v .state) i (v .next) (131 - j) x h (d .bounds) in
         let c = is-counted (v .state) i (v .next) x refl h in
         let y : refused f (l .microsteps) e m x 26 ≡ advance f (l .microsteps) e m x = sym (if-true _ _ _ (lt-ltb (l .microsteps) (j + 1) (omega arith))) ∙ c in
         let z = settled (settle-next (d .runs) p (sym (moves (v .state) i (v .next) h)) refl y) refl refl in
@@ -253,62 +281,43 @@ module _ (f : Workflow) (l : Limits) (e : Event) (m : Mappings) (v₀ : Move) wh
     unfolding counting
     next-is i u h o z = rw z (sym (if-false _ _ _ (le-ltb (l .microsteps) (j + 1) (omega arith))) ∙ is-counted (v .state) i (v .next) x refl h)
 
-    next-bounds : (i : ℕ) (u : Move) → 0 < left → place-of f (v .state) (v .next) ≡ At i → j < l .microsteps → u ≡ turn f e m (v .state) i (v .next)
-        → Bounded f (l .microsteps) e m (left - 1) (made f (l .microsteps) e m (j + 1) x u)
-    next-bounds i u p h o z =
-        let t : left ≡ suc (left - 1) = omega arith in
-        subst (λ (w : Machine). Bounded f (l .microsteps) e m (left - 1) w) (sym (next-is i u h o z)) (bounded-advance f (l .microsteps) e m (left - 1) x (rw t at (d .bounds)))
-
-    -- The next move, with what it says.
-    pub driving-next : (i r : ℕ) (u : Move) (g′ : Log) → 0 < left → place-of f (v .state) (v .next) ≡ At i → j < l .microsteps → u ≡ turn f e m (v .state) i (v .next)
-        → r ≡ operations-of (take (u .answers) (m .answers)) → r ≤ 8589934592 → g′ ≡ said g (u .note) (u .ending) r → Driving (left - 1) u g′ (j + 1)
-    driving-next i r u g′ p h o z q w y =
-        let b = next-bounds i u p h o z in
-        let a = logs-said (d .logs) (u .note) (u .ending) r (omega (arith, b .few-notes)) (omega (arith, b .few-endings)) in
-        let k : Logs g′ (add-note (d .ns) (u .note)) (add-ending (d .es) (u .ending)) (g .operations + r) = rw y a in
-        let n : g′ .operations ≡ g .operations + operations-of (take (u .answers) (m .answers)) = omega (arith, k .operations-are) in
+    -- The next move.
+    pub driving-next : (i : ℕ) (u : Move) → place-of f (v .state) (v .next) ≡ At i → j < l .microsteps → u ≡ turn f e m (v .state) i (v .next)
+        → Driving u notes endings n k q (j + 1)
+    driving-next i u h o z =
+        let p = some-left (v .state) i (v .next) (131 - j) x h (d .bounds) in
+        let t : 131 - j ≡ suc (131 - (j + 1)) = omega arith in
+        let a : 131 - j - 1 ≡ 131 - (j + 1) = omega arith in
         record {
-          ns = add-note (d .ns) (u .note);
-          es = add-ending (d .es) (u .ending);
-          logs = record { notes-are = k .notes-are; endings-are = k .endings-are; operations-are = refl };
-          runs = rw n (settle-next (d .runs) p (sym (moves (v .state) i (v .next) h)) refl (next-is i u h o z));
-          bounds = rw n b;
-          few = omega (arith, d .few, k .operations-are);
+          ns = d .ns;
+          es = d .es;
+          notes-are = d .notes-are;
+          endings-are = d .endings-are;
+          runs = rw a at (settle-next (d .runs) p (sym (moves (v .state) i (v .next) h)) refl (next-is i u h o z));
+          bounds = subst (λ (w : Machine). Bounded f (l .microsteps) e m (131 - (j + 1)) w) (sym (next-is i u h o z)) (bounded-advance f (l .microsteps) e m (131 - (j + 1)) x (rw t at (d .bounds)));
+          few = d .few;
         }
 
     -- No move follows.
-    resting : (t : State) (o : Order) → decide-by (rest-answer o l j (g .operations)) g t ≡ decision-of (finish-by Rest l (machine t Rest o (d .ns) (d .es) j (g .operations)))
-    unfolding decide-by rest-answer finish-by decision-of if_then_else_
+    resting : (t : State) (o : Order) → decide notes endings n k t (rest-answer o l j q) ≡ decision-of (finish-by Rest l (machine t Rest o (d .ns) (d .es) j q))
+    unfolding decide rest-answer finish-by decision-of if_then_else_
     resting t o =
         split (ltb (l .commands) (orders o)) (λ a. rw a)
-        (λ a. split (ltb (l .operations) (g .operations)) (λ b. rw (a, b))
-        (λ b. rw (a, b, d .logs .notes-are .is, d .logs .notes-are .count, d .logs .endings-are .is, d .logs .endings-are .count)))
+        (λ a. split (ltb (l .operations) q) (λ b. rw (a, b))
+        (λ b. rw (a, b, d .notes-are .is, d .notes-are .count, d .endings-are .is, d .endings-are .count)))
 
-    ends-by : (t : State) (y : Next) (o : Order) → place-of f t y ≡ Nothing → Runs left (machine t y o (d .ns) (d .es) j (g .operations))
-        → Bounds y left (machine t y o (d .ns) (d .es) j (g .operations)) → decide g y o l j t ≡ decision-of (finish l at-end)
-    unfolding place-of answer-of finish-by advance-by consume-by operations-of decide-by
+    ends-by : (t : State) (y : Next) (o : Order) → place-of f t y ≡ Nothing → Runs (131 - j) (machine t y o (d .ns) (d .es) j q)
+        → Bounds y (131 - j) (machine t y o (d .ns) (d .es) j q) → decide notes endings n k t (answer-of y o l j q) ≡ decision-of (finish l at-end)
+    unfolding place-of answer-of finish-by advance-by consume-by operations-of decide
     ends-by t Rest o h r b = resting t o ∙ ap (λ (w : Machine). decision-of (finish l w)) (settled r refl refl)
     ends-by t (Enter i c) o h r b = let z : _≡_ {A = ℕ} 0 1 = cc in absurd (omega arith)
     ends-by t Take o h r b = let z : _≡_ {A = ℕ} 0 1 = cc in absurd (omega arith)
     ends-by t Consume o h r b =
-        let y : machine t Rest Order.Nothing (d .ns) (d .es) j (g .operations) ≡ advance f (l .microsteps) e m (machine t Consume o (d .ns) (d .es) j (g .operations)) =
+        let y : machine t Rest Order.Nothing (d .ns) (d .es) j q ≡ advance f (l .microsteps) e m (machine t Consume o (d .ns) (d .es) j q) =
         rw (h, same-notes (d .ns) no-note refl, same-endings (d .es) no-ending refl) (ap (machine t Rest Order.Nothing (d .ns) (d .es) j) (omega arith)) in
         resting t Order.Nothing ∙ ap (λ (w : Machine). decision-of (finish l w)) (settled (settle-next r (omega (arith, b .enough)) refl refl y) refl refl)
     ends-by t (Wants i z c) o h r b = ap (λ (w : Machine). decision-of (finish l w)) (settled r refl refl)
     ends-by t (Refuse i) o h r b = ap (λ (w : Machine). decision-of (finish l w)) (settled r refl refl)
 
-    pub driving-ends : place-of f (v .state) (v .next) ≡ Nothing → decide g (v .next) (v .order) l j (v .state) ≡ decision-of (finish l at-end)
+    pub driving-ends : place-of f (v .state) (v .next) ≡ Nothing → decide notes endings n k (v .state) (answer-of (v .next) (v .order) l j q) ≡ decision-of (finish l at-end)
     driving-ends h = ends-by (v .state) (v .next) (v .order) h (d .runs) (d .bounds)
-
-    -- With no move left none follows.
-    none-left : (t : State) (y : Next) (x : Machine) → left ≡ 0 → Bounds y left x → place-of f t y ≡ Nothing
-    unfolding place-of
-    none-left t Rest x z b = refl
-    none-left t (Enter i c) x z b = absurd (omega (arith, b .enough))
-    none-left t Take x z b = absurd (omega (arith, b .enough))
-    none-left t Consume x z b = absurd (omega (arith, b .enough))
-    none-left t (Wants i w c) x z b = refl
-    none-left t (Refuse i) x z b = refl
-
-    pub driving-out : left ≡ 0 → decide g (v .next) (v .order) l j (v .state) ≡ decision-of (finish l at-end)
-    driving-out z = driving-ends (none-left (v .state) (v .next) x z (d .bounds))
