@@ -1,6 +1,6 @@
 -- The driver's loop: at each turn the machine of the definition is the record, the lists in their arrays and the counts of the code.
 use mathlib.Core.Path.{_≡_, refl, sym, _∙_, ap, subst}
-use mathlib.Core.Bool.{Bool, true, false}
+use mathlib.Core.Bool.{true, false}
 use mathlib.Core.List.{List, [], _∷_, _++_}
 use Prim.Native.Nat.{ℕ, zero, suc, _+_, _-_, _*_, _≤_, _<_}
 use native.Mathlib.Omega.{arith}
@@ -9,7 +9,7 @@ use lib.ListN.{length, take, set, getD, replicate, length-append}
 use borrow.Author.Tests.{eq-eqb, ne-eqb, lt-ltb, le-ltb}
 use Rattle.laws.specs.Bool.{if_then_else_, if-true, if-false, split}
 use Rattle.laws.specs.Settle.{settle, Settling, settled, settle-next}
-use Rattle.laws.specs.Listing.{padded, Listing, listing-none, listing-more}
+use Rattle.laws.specs.Listing.{Listing, listing-none, listing-more}
 use Rattle.workflow.specs.View.{Workflow}
 use Rattle.workflow.specs.Lookup.{node-of}
 use Rattle.workflow.specs.declared.Node.{Node}
@@ -29,14 +29,13 @@ use Rattle.model.specs.declared.moves.Next.{Next}
 use Rattle.model.specs.declared.moves.Next.the-variants.{Rest, Enter, Take, Consume, Wants, Refuse}
 use Rattle.model.specs.declared.moves.Move.{Move}
 use Rattle.workflow.specs.Code.{none}
-use Rattle.model.specs.Record.{fresh}
 use Rattle.model.specs.Store.{first-signal, signal-at, removed}
 use Rattle.model.specs.Step.{no-note, no-ending, no-mapping, still, arrival, enter, take-signal, apply}
-use Rattle.kernel.specs.Drive.{Machine, operations-of, add-note, add-ending, made, refused, counting, consume-by, advance-by, advance, moves-on, is-moving, applied, driven}
+use Rattle.kernel.specs.Drive.{Machine, operations-of, add-note, add-ending, made, refused, counting, consume-by, advance-by, advance, moves-on, is-moving, driven}
 use Rattle.kernel.specs.Bounds.{same-notes, same-endings, Bounds, Bounded, bounded-advance, bounded-applied}
 use Rattle.kernel.specs.Call as call
-use Rattle.kernel.specs.Call.{Answer, orders, next, wants, accepted-of, finish-by, finish}
-use Rattle.kernel.specs.Decision.{decision, decision-of}
+use Rattle.kernel.specs.Call.{orders, wants, finish-by, finish}
+use Rattle.kernel.specs.Decision.{decision-of}
 
 -- THE CODE'S PARTS.
 -- Where the signal stands that is taken next: its place in the store, or 0 where none is looked for; nothing where no move follows.
@@ -104,25 +103,29 @@ module _ (xs : List Mapping) (two : length xs ≡ 2) where
       both (y ∷ (z ∷ [])) (suc i) h = omega arith
       both (y ∷ (z ∷ (w ∷ ys))) i h = absurd (omega arith)
 
--- A note or an ending, with its code, is listed if it is one.
-abbrev added : {A : Type 0} → (code : ℕ) → List A → A → List A
+-- What a move says is listed where its code is not 0.
+unfoldable pub added : {A : Type 0} → (code : ℕ) → List A → A → List A
 added c xs x = if eqb c 0 then xs else (xs ++ (x ∷ []))
 
-module _ {A : Type 0} {d : A} {array : List A} {n : ℕ} {xs : List A} (l : Listing d 65 array n xs) (c : ℕ) (x : A) where
-  listing-same : c ≤ 0 → Listing d 65 array n (added c xs x)
-  unfolding if_then_else_
-  listing-same h = rw (eq-eqb c 0 (omega arith)) l
+-- The array and the count n hold the list xs, and have room for x.
+pub record Adding {A : Type 0} (d : A) (array : List A) (n : ℕ) (xs : List A) (code : ℕ) (x : A) : Type 0 where
+  pub are : Listing d 65 array n xs
+  pub fit : length (added code xs x) ≤ 65
 
-  listing-room : 0 < c → length (added c xs x) ≤ 65 → n < 65
-  unfolding if_then_else_
-  listing-room h r =
-      let e : eqb c 0 ≡ false = ne-eqb c 0 (λ z. omega arith) in
-      let w : length (xs ++ (x ∷ [])) ≤ 65 = rw e at r in
-      omega (arith, length-append xs (x ∷ []), l .count)
+module _ {A : Type 0} {d : A} {array : List A} {n : ℕ} {xs : List A} {c : ℕ} {x : A} (l : Adding d array n xs c x) where
+  pub added-room : 0 < c → n < 65
+  unfolding added if_then_else_
+  added-room h =
+      let w : length (xs ++ (x ∷ [])) ≤ 65 = rw (ne-eqb c 0 (λ z. omega arith)) at (l .fit) in
+      omega (arith, length-append xs (x ∷ []), l .are .count)
 
-  listing-added : 0 < c → length (added c xs x) ≤ 65 → Listing d 65 (set array n x) (n + 1) (added c xs x)
-  unfolding if_then_else_
-  listing-added h r = rw (ne-eqb c 0 (λ z. omega arith)) (listing-more d x (listing-room h r) l)
+  pub added-one : {to : List A} {i : ℕ} → 0 < c → to ≡ set array n x → i ≡ n + 1 → Listing d 65 to i (added c xs x)
+  unfolding added if_then_else_
+  added-one h e g = rw (ne-eqb c 0 (λ z. omega arith), e, g) (listing-more d x (added-room h) (l .are))
+
+  pub added-none : {to : List A} {i : ℕ} → c ≤ 0 → to ≡ array → i ≡ n → Listing d 65 to i (added c xs x)
+  unfolding added if_then_else_
+  added-none h e g = rw (eq-eqb c 0 (omega arith), e, g) (l .are)
 
 -- THE LOOP, of one call on one sheet.
 module _ (f : Workflow) (l : Limits) (e : Event) (m : Mappings) (v₀ : Move) where
@@ -150,25 +153,28 @@ module _ (f : Workflow) (l : Limits) (e : Event) (m : Mappings) (v₀ : Move) wh
   pub begins : (s : State) → s .«signal_count» ≤ 64 → v₀ ≡ apply f s e → Begins
   begins s r h = rw h (bounded-applied f (l .microsteps) e m s r)
 
-  -- The code's variables and the machine, after a move and so many microsteps.
-  pub record Listed (v : Move) (notes : List Note) (endings : List Ending) (note-count ending-count operations microsteps : ℕ) : Type 0 where
-    pub ns : List Note
-    pub es : List Ending
-    pub notes-are : Listing no-note 65 notes note-count ns
-    pub endings-are : Listing no-ending 65 endings ending-count es
-    pub runs : Runs (131 - microsteps) (machine (v .state) (v .next) (v .order) ns es microsteps operations)
-    pub bounds : Bounds (v .next) (131 - microsteps) (machine (v .state) (v .next) (v .order) ns es microsteps operations)
-    pub few : operations ≤ (microsteps + 1) * 8589934592
+  -- From this machine on the moves lead to the end, and what they say has room.
+  pub record Going (x : Machine) : Type 0 where
+    pub runs : Runs (131 - x .microsteps) x
+    pub bounds : Bounds (x .next) (131 - x .microsteps) x
 
-  -- At the head of the loop, where what the move says is not yet listed.
+  -- What stands at the head of the loop: the lists in their arrays, and a move that is made but has not been listed.
   pub record Driving (v : Move) (notes : List Note) (endings : List Ending) (note-count ending-count operations microsteps : ℕ) : Type 0 where
     pub ns : List Note
     pub es : List Ending
     pub notes-are : Listing no-note 65 notes note-count ns
     pub endings-are : Listing no-ending 65 endings ending-count es
-    pub runs : Runs (131 - microsteps) (machine (v .state) (v .next) (v .order) (add-note ns (v .note)) (add-ending es (v .ending)) microsteps (operations + operations-of (take (v .answers) (m .answers))))
-    pub bounds : Bounds (v .next) (131 - microsteps) (machine (v .state) (v .next) (v .order) (add-note ns (v .note)) (add-ending es (v .ending)) microsteps (operations + operations-of (take (v .answers) (m .answers))))
+    pub going : Going (machine (v .state) (v .next) (v .order) (add-note ns (v .note)) (add-ending es (v .ending)) microsteps (operations + operations-of (take (v .answers) (m .answers))))
     pub few : operations ≤ microsteps * 8589934592
+
+  -- The same where it has been listed.
+  pub record Listed (v : Move) (notes : List Note) (endings : List Ending) (note-count ending-count operations microsteps : ℕ) : Type 0 where
+    pub ns : List Note
+    pub es : List Ending
+    pub notes-are : Listing no-note 65 notes note-count ns
+    pub endings-are : Listing no-ending 65 endings ending-count es
+    pub going : Going (machine (v .state) (v .next) (v .order) ns es microsteps operations)
+    pub few : operations ≤ (microsteps + 1) * 8589934592
 
   pub driving-first : (x : Note) (y : Ending) → x ≡ no-note → y ≡ no-ending → Begins → Driving v₀ (replicate 65 x) (replicate 65 y) 0 0 0 0
   driving-first x y h k b =
@@ -177,61 +183,24 @@ module _ (f : Workflow) (l : Limits) (e : Event) (m : Mappings) (v₀ : Move) wh
         es = [];
         notes-are = rw h (listing-none no-note);
         endings-are = rw k (listing-none no-ending);
-        runs = record { left = refl };
-        bounds = b;
+        going = record { runs = record { left = refl }; bounds = b };
         few = omega arith;
       }
 
-  -- What the move says is listed.
+  -- The move is listed.
   module _ {v : Move} {notes : List Note} {endings : List Ending} {n k q j : ℕ} (d : Driving v notes endings n k q j) where
-    abbrev note-arrived : List Note → ℕ → Type 0
-    note-arrived a i = Listing no-note 65 a i (add-note (d .ns) (v .note))
+    pub adding-note : Adding no-note notes n (d .ns) (v .note .code) (v .note)
+    unfolding added add-note
+    adding-note = record { are = d .notes-are; fit = omega (arith, d .going .bounds .few-notes) }
 
-    abbrev ending-arrived : List Ending → ℕ → Type 0
-    ending-arrived a i = Listing no-ending 65 a i (add-ending (d .es) (v .ending))
+    pub adding-ending : Adding no-ending endings k (d .es) (v .ending .ending) (v .ending)
+    unfolding added add-ending
+    adding-ending = record { are = d .endings-are; fit = omega (arith, d .going .bounds .few-endings) }
 
-    notes-fit : length (add-note (d .ns) (v .note)) ≤ 65
-    notes-fit = omega (arith, d .bounds .few-notes)
-
-    endings-fit : length (add-ending (d .es) (v .ending)) ≤ 65
-    endings-fit = omega (arith, d .bounds .few-endings)
-
-    pub note-room : 0 < v .note .code → n < 65
-    unfolding add-note
-    note-room h = listing-room (d .notes-are) (v .note .code) (v .note) h notes-fit
-
-    pub note-more : {a : List Note} {i : ℕ} → 0 < v .note .code → a ≡ set notes n (v .note) → i ≡ n + 1 → note-arrived a i
-    unfolding add-note
-    note-more h e g = rw (e, g) (listing-added (d .notes-are) (v .note .code) (v .note) h notes-fit)
-
-    pub note-same : {a : List Note} {i : ℕ} → v .note .code ≤ 0 → a ≡ notes → i ≡ n → note-arrived a i
-    unfolding add-note
-    note-same h e g = rw (e, g) (listing-same (d .notes-are) (v .note .code) (v .note) h)
-
-    pub ending-room : 0 < v .ending .ending → k < 65
-    unfolding add-ending
-    ending-room h = listing-room (d .endings-are) (v .ending .ending) (v .ending) h endings-fit
-
-    pub ending-more : {a : List Ending} {i : ℕ} → 0 < v .ending .ending → a ≡ set endings k (v .ending) → i ≡ k + 1 → ending-arrived a i
-    unfolding add-ending
-    ending-more h e g = rw (e, g) (listing-added (d .endings-are) (v .ending .ending) (v .ending) h endings-fit)
-
-    pub ending-same : {a : List Ending} {i : ℕ} → v .ending .ending ≤ 0 → a ≡ endings → i ≡ k → ending-arrived a i
-    unfolding add-ending
-    ending-same h e g = rw (e, g) (listing-same (d .endings-are) (v .ending .ending) (v .ending) h)
-
-    pub listed : {a : List Note} {b : List Ending} {i o : ℕ} → note-arrived a i → ending-arrived b o → (r : ℕ)
-        → r ≡ operations-of (take (v .answers) (m .answers)) → r ≤ 8589934592 → Listed v a b i o (q + r) j
-    listed x y r h z =
-        record {
-          ns = add-note (d .ns) (v .note);
-          es = add-ending (d .es) (v .ending);
-          notes-are = x;
-          endings-are = y;
-          runs = rw h (d .runs);
-          bounds = rw h (d .bounds);
-          few = omega (arith, d .few);
-        }
+    pub listed : {a : List Note} {b : List Ending} {i o : ℕ} → Listing no-note 65 a i (added (v .note .code) (d .ns) (v .note)) → Listing no-ending 65 b o (added (v .ending .ending) (d .es) (v .ending))
+        → (r : ℕ) → r ≡ operations-of (take (v .answers) (m .answers)) → r ≤ 8589934592 → Listed v a b i o (q + r) j
+    unfolding added add-note add-ending
+    listed x y r h z = record { ns = add-note (d .ns) (v .note); es = add-ending (d .es) (v .ending); notes-are = x; endings-are = y; going = rw h (d .going); few = omega (arith, d .few) }
 
   -- A signal is found, or none is looked for: a microstep.
   moves : (t : State) (i : ℕ) (n : Next) → place-of f t n ≡ At i → moves-on f (l .microsteps) e m n ≡ true
@@ -270,10 +239,10 @@ module _ (f : Workflow) (l : Limits) (e : Event) (m : Mappings) (v₀ : Move) wh
     pub driving-over : (i : ℕ) → place-of f (v .state) (v .next) ≡ At i → l .microsteps ≤ j → decision-of (call.refused 26 none) ≡ decision-of (finish l at-end)
     unfolding counting finish-by
     driving-over i h o =
-        let p = some-left (v .state) i (v .next) (131 - j) x h (d .bounds) in
+        let p = some-left (v .state) i (v .next) (131 - j) x h (d .going .bounds) in
         let c = is-counted (v .state) i (v .next) x refl h in
         let y : refused f (l .microsteps) e m x 26 ≡ advance f (l .microsteps) e m x = sym (if-true _ _ _ (lt-ltb (l .microsteps) (j + 1) (omega arith))) ∙ c in
-        let z = settled (settle-next (d .runs) p (sym (moves (v .state) i (v .next) h)) refl y) refl refl in
+        let z = settled (settle-next (d .going .runs) p (sym (moves (v .state) i (v .next) h)) refl y) refl refl in
         ap (λ (w : Machine). decision-of (finish l w)) z
 
     next-is : (i : ℕ) (u : Move) → place-of f (v .state) (v .next) ≡ At i → j < l .microsteps → u ≡ turn f e m (v .state) i (v .next)
@@ -285,7 +254,7 @@ module _ (f : Workflow) (l : Limits) (e : Event) (m : Mappings) (v₀ : Move) wh
     pub driving-next : (i : ℕ) (u : Move) → place-of f (v .state) (v .next) ≡ At i → j < l .microsteps → u ≡ turn f e m (v .state) i (v .next)
         → Driving u notes endings n k q (j + 1)
     driving-next i u h o z =
-        let p = some-left (v .state) i (v .next) (131 - j) x h (d .bounds) in
+        let p = some-left (v .state) i (v .next) (131 - j) x h (d .going .bounds) in
         let t : 131 - j ≡ suc (131 - (j + 1)) = omega arith in
         let a : 131 - j - 1 ≡ 131 - (j + 1) = omega arith in
         record {
@@ -293,8 +262,10 @@ module _ (f : Workflow) (l : Limits) (e : Event) (m : Mappings) (v₀ : Move) wh
           es = d .es;
           notes-are = d .notes-are;
           endings-are = d .endings-are;
-          runs = rw a at (settle-next (d .runs) p (sym (moves (v .state) i (v .next) h)) refl (next-is i u h o z));
-          bounds = subst (λ (w : Machine). Bounded f (l .microsteps) e m (131 - (j + 1)) w) (sym (next-is i u h o z)) (bounded-advance f (l .microsteps) e m (131 - (j + 1)) x (rw t at (d .bounds)));
+          going = record {
+            runs = rw a at (settle-next (d .going .runs) p (sym (moves (v .state) i (v .next) h)) refl (next-is i u h o z));
+            bounds = subst (λ (w : Machine). Bounded f (l .microsteps) e m (131 - (j + 1)) w) (sym (next-is i u h o z)) (bounded-advance f (l .microsteps) e m (131 - (j + 1)) x (rw t at (d .going .bounds)));
+          };
           few = d .few;
         }
 
@@ -320,4 +291,4 @@ module _ (f : Workflow) (l : Limits) (e : Event) (m : Mappings) (v₀ : Move) wh
     ends-by t (Refuse i) o h r b = ap (λ (w : Machine). decision-of (finish l w)) (settled r refl refl)
 
     pub driving-ends : place-of f (v .state) (v .next) ≡ Nothing → decide notes endings n k (v .state) (answer-of (v .next) (v .order) l j q) ≡ decision-of (finish l at-end)
-    driving-ends h = ends-by (v .state) (v .next) (v .order) h (d .runs) (d .bounds)
+    driving-ends h = ends-by (v .state) (v .next) (v .order) h (d .going .runs) (d .going .bounds)

@@ -1,10 +1,10 @@
 use borrow.Author.Needs.{needs}
 use native.Mathlib.Omega.{arith}
 use Prim.Native.Nat.{_+_, _-_, _<_}
-use mathlib.Core.Path.{_≡_, sym, _∙_}
+use mathlib.Core.Path.{sym, _∙_}
 use mathlib.Core.Logic.{⊎-elim}
 use Rattle.workflow.specs.View.{workflow}
-use Rattle.kernel.specs.DriveLaws.{Driving, Listed, driving-first, note-room, note-more, note-same, ending-room, ending-more, ending-same, listed, driving-next, driving-over, driving-ends}
+use Rattle.kernel.specs.DriveLaws.{Driving, Listed, driving-first, adding-note, adding-ending, added-room, added-one, added-none, listed, driving-next, driving-over, driving-ends}
 use Rattle.kernel.proofs.drive.run.Statement.{statement}
 use Rattle.kernel.proofs.drive.run.Tie as tie
 use Rattle.kernel.proofs.drive.run.Reads as reads
@@ -27,10 +27,10 @@ abbrev μ-loop : tie.MeasureT-loop
 
 -- There is room for what the move says.
 note-fits : (c : tie.Then1 Inv-loop μ-loop) → c .before .before .before .loop .note-count < 65
-note-fits c = note-room _ _ _ _ _ (c .before .before .before .loop .inv) (c .if1 .taken)
+note-fits c = added-room (adding-note _ _ _ _ _ (c .before .before .before .loop .inv)) (c .if1 .taken)
 
 ending-fits : (c : tie.Then2 Inv-loop μ-loop) → c .before .before .before .before .before .before .loop .ending-count < 65
-ending-fits c = ending-room _ _ _ _ _ (c .before .before .before .before .before .before .loop .inv) (c .if2 .taken)
+ending-fits c = added-room (adding-ending _ _ _ _ _ (c .before .before .before .before .before .before .loop .inv)) (c .if2 .taken)
 
 -- What the move says is listed.
 module _ (c : tie.After-operations-of Inv-loop μ-loop) where
@@ -47,8 +47,8 @@ module _ (c : tie.After-operations-of Inv-loop μ-loop) where
   says =
       let d = head .loop .inv in
       listed _ _ _ _ _ d
-      (⊎-elim (λ w. note-more _ _ _ _ _ d (w .0 .taken) (w .1) (w .2)) (λ w. note-same _ _ _ _ _ d (w .0 .left) (w .1) (w .2)) (c .before .before .before .before .if1 .came))
-      (⊎-elim (λ w. ending-more _ _ _ _ _ d (w .0 .taken) (w .1) (w .2)) (λ w. ending-same _ _ _ _ _ d (w .0 .left) (w .1) (w .2)) (c .before .if2 .came))
+      (⊎-elim (λ w. added-one (adding-note _ _ _ _ _ d) (w .0 .taken) (w .1) (w .2)) (λ w. added-none (adding-note _ _ _ _ _ d) (w .0 .left) (w .1) (w .2)) (c .before .before .before .before .if1 .came))
+      (⊎-elim (λ w. added-one (adding-ending _ _ _ _ _ d) (w .0 .taken) (w .1) (w .2)) (λ w. added-none (adding-ending _ _ _ _ _ d) (w .0 .left) (w .1) (w .2)) (c .before .if2 .came))
       _ (c .operations-of .ensures .0) (c .operations-of .ensures .1)
 
 no-note-requires : tie.Need-no-note-requires Inv-loop μ-loop
@@ -90,7 +90,7 @@ operations-of-requires c κs = search needs
 
 add-operations : tie.Need-add-operations Inv-loop μ-loop
 add-operations c =
-    let d = c .before .before .before .before .before .before .before .loop .inv in omega (arith, c .operations-of .ensures .1, d .few, d .bounds .steps)
+    let d = c .before .before .before .before .before .before .before .loop .inv in omega (arith, c .operations-of .ensures .1, d .few, d .going .bounds .steps)
 
 place-of-requires : tie.Need-place-of-requires Inv-loop μ-loop
 place-of-requires c κs = search needs
@@ -123,11 +123,11 @@ turn-requires c κs = search needs
 
 add-microsteps : tie.Need-add-microsteps Inv-loop μ-loop
 add-microsteps c =
-    omega (arith, c .before .before .before .before .before .before .before .before .before .before .before .before .before .before .loop .inv .bounds .steps)
+    omega (arith, c .before .before .before .before .before .before .before .before .before .before .before .before .before .before .loop .inv .going .bounds .steps)
 
 loop-less : tie.Need-loop-less Inv-loop μ-loop
 loop-less c =
-    omega (arith, c .before .before .before .before .before .before .before .before .before .before .before .before .before .before .loop .inv .bounds .steps)
+    omega (arith, c .before .before .before .before .before .before .before .before .before .before .before .before .before .before .loop .inv .going .bounds .steps)
 
 loop-again : tie.Need-loop-again Inv-loop μ-loop
 loop-again c =
