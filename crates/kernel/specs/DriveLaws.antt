@@ -1,15 +1,15 @@
 -- The driver's loop: at each turn the machine of the definition is the record, the lists in their arrays and the counts of the code.
 use mathlib.Core.Path.{_≡_, refl, sym, _∙_, ap, subst}
-use mathlib.Core.Bool.{Bool, true, false}
+use mathlib.Core.Bool.{true, false}
 use mathlib.Core.List.{List, [], _∷_, _++_}
 use Prim.Native.Nat.{ℕ, zero, suc, _+_, _-_, _*_, _≤_, _<_}
 use native.Mathlib.Omega.{arith}
-use lib.Dec.{eqb, ltb, leb}
+use lib.Dec.{eqb, ltb}
 use lib.ListN.{length, take, set, getD, replicate, length-append}
-use borrow.Author.Tests.{lt-ltb, le-ltb, lt-leb}
+use borrow.Author.Tests.{eq-eqb, ne-eqb, lt-ltb, le-ltb}
 use Rattle.laws.specs.Bool.{if_then_else_, if-true, if-false, split}
 use Rattle.laws.specs.Settle.{settle, Settling, settled, settle-next}
-use Rattle.laws.specs.Listing.{padded, Listing, listing-none, listing-more}
+use Rattle.laws.specs.Listing.{Listing, listing-none, listing-more}
 use Rattle.workflow.specs.View.{Workflow}
 use Rattle.workflow.specs.Lookup.{node-of}
 use Rattle.workflow.specs.declared.Node.{Node}
@@ -29,15 +29,13 @@ use Rattle.model.specs.declared.moves.Next.{Next}
 use Rattle.model.specs.declared.moves.Next.the-variants.{Rest, Enter, Take, Consume, Wants, Refuse}
 use Rattle.model.specs.declared.moves.Move.{Move}
 use Rattle.workflow.specs.Code.{none}
-use Rattle.model.specs.Record.{fresh}
 use Rattle.model.specs.Store.{first-signal, signal-at, removed}
 use Rattle.model.specs.Step.{no-note, no-ending, no-mapping, still, arrival, enter, take-signal, apply}
-use Rattle.kernel.specs.declared.drive.Log.{Log}
-use Rattle.kernel.specs.Drive.{Machine, operations-of, add-note, add-ending, made, refused, counting, consume-by, advance-by, advance, moves-on, is-moving, applied, driven}
+use Rattle.kernel.specs.Drive.{Machine, operations-of, add-note, add-ending, made, refused, counting, consume-by, advance-by, advance, moves-on, is-moving, driven}
 use Rattle.kernel.specs.Bounds.{same-notes, same-endings, Bounds, Bounded, bounded-advance, bounded-applied}
 use Rattle.kernel.specs.Call as call
-use Rattle.kernel.specs.Call.{Answer, orders, next, wants, accepted-of, finish-by, finish}
-use Rattle.kernel.specs.Decision.{decision, decision-of}
+use Rattle.kernel.specs.Call.{orders, wants, finish-by, finish}
+use Rattle.kernel.specs.Decision.{decision-of}
 
 -- THE CODE'S PARTS.
 -- Where the signal stands that is taken next: its place in the store, or 0 where none is looked for; nothing where no move follows.
@@ -73,39 +71,10 @@ answer-of Consume o l k n = rest-answer Order.Nothing l k n
 answer-of (Wants t i b) o l k n = code.Answer.Wants t i b
 answer-of (Refuse r) o l k n = code.Answer.Refused r none
 
--- What a call has said so far: no more than 65 notes, and as many endings.
-abbrev logged : List Note → List Ending → (operations note-count ending-count : ℕ) → Log
-logged ns es q n k = record { notes = ns; endings = es; operations = q; «note_count» = n; «ending_count» = k }
-
-abbrev pub no-log : Log
-no-log = logged (replicate 65 no-note) (replicate 65 no-ending) 0 0 0
-
-unfoldable pub noted : Log → Note → Log
-noted g x =
-    if eqb (x .code) 0 then g else
-    if leb 65 (g .«note_count») then g else
-    logged (set (g .notes) (g .«note_count») x) (g .endings) (g .operations) (g .«note_count» + 1) (g .«ending_count»)
-
-unfoldable pub ended : Log → Ending → Log
-ended g x =
-    if eqb (x .ending) 0 then g else
-    if leb 65 (g .«ending_count») then g else
-    logged (g .notes) (set (g .endings) (g .«ending_count») x) (g .operations) (g .«note_count») (g .«ending_count» + 1)
-
-abbrev with-operations : Log → ℕ → Log
-with-operations g q = logged (g .notes) (g .endings) q (g .«note_count») (g .«ending_count»)
-
-unfoldable pub said : Log → Note → Ending → (operations : ℕ) → Log
-said g x y q = with-operations (ended (noted g x) y) (g .operations + q)
-
-unfoldable pub decide-by : code.Answer → Log → State → Decision
-decide-by (code.Answer.Next o j) g s =
-    record { notes = g .notes; endings = g .endings; «note_count» = g .«note_count»; «ending_count» = g .«ending_count»; answer = code.Answer.Next o j; state = s }
-decide-by (code.Answer.Wants t i b) g s = decision-of (wants t i b s)
-decide-by (code.Answer.Refused r i) g s = decision-of (call.refused r i)
-
-abbrev pub decide : Log → Next → Order → Limits → (microsteps : ℕ) → State → Decision
-decide g n o l j s = decide-by (answer-of n o l j (g .operations)) g s
+unfoldable pub decide : List Note → List Ending → (note-count ending-count : ℕ) → State → code.Answer → Decision
+decide ns es n k s (code.Answer.Next o j) = record { notes = ns; endings = es; «note_count» = n; «ending_count» = k; answer = code.Answer.Next o j; state = s }
+decide ns es n k s (code.Answer.Wants t i b) = decision-of (wants t i b s)
+decide ns es n k s (code.Answer.Refused r i) = decision-of (call.refused r i)
 
 -- The operations of the answers that were read.
 module _ (xs : List Mapping) (two : length xs ≡ 2) where
@@ -134,38 +103,29 @@ module _ (xs : List Mapping) (two : length xs ≡ 2) where
       both (y ∷ (z ∷ [])) (suc i) h = omega arith
       both (y ∷ (z ∷ (w ∷ ys))) i h = absurd (omega arith)
 
--- The log holds these notes, endings and operations.
-pub record Logs (g : Log) (ns : List Note) (es : List Ending) (q : ℕ) : Type 0 where
-  pub notes-are : Listing no-note 65 (g .notes) (g .«note_count») ns
-  pub endings-are : Listing no-ending 65 (g .endings) (g .«ending_count») es
-  pub operations-are : g .operations ≡ q
+-- What a move says is listed where its code is not 0.
+unfoldable pub added : {A : Type 0} → (code : ℕ) → List A → A → List A
+added c xs x = if eqb c 0 then xs else (xs ++ (x ∷ []))
 
-logs-none : Logs no-log [] [] 0
-logs-none = record { notes-are = listing-none no-note; endings-are = listing-none no-ending; operations-are = refl }
+-- The array and the count n hold the list xs, and have room for x.
+pub record Adding {A : Type 0} (d : A) (array : List A) (n : ℕ) (xs : List A) (code : ℕ) (x : A) : Type 0 where
+  pub are : Listing d 65 array n xs
+  pub fit : length (added code xs x) ≤ 65
 
-module _ {g : Log} {ns : List Note} {es : List Ending} {q : ℕ} (l : Logs g ns es q) where
-  logs-noted : (x : Note) → length (add-note ns x) ≤ 65 → Logs (noted g x) (add-note ns x) es q
-  unfolding noted add-note if_then_else_
-  logs-noted x r =
-      split (eqb (x .code) 0) (λ h. rw h l)
-      (λ h. let w : length (ns ++ (x ∷ [])) ≤ 65 = rw h at r in
-      let z : g .«note_count» < 65 = omega (arith, length-append ns (x ∷ []), l .notes-are .count) in
-      rw (h, lt-leb 65 (g .«note_count») z) (record { notes-are = listing-more no-note x z (l .notes-are); endings-are = l .endings-are; operations-are = l .operations-are }))
+module _ {A : Type 0} {d : A} {array : List A} {n : ℕ} {xs : List A} {c : ℕ} {x : A} (l : Adding d array n xs c x) where
+  pub added-room : 0 < c → n < 65
+  unfolding added if_then_else_
+  added-room h =
+      let w : length (xs ++ (x ∷ [])) ≤ 65 = rw (ne-eqb c 0 (λ z. omega arith)) at (l .fit) in
+      omega (arith, length-append xs (x ∷ []), l .are .count)
 
-  logs-ended : (x : Ending) → length (add-ending es x) ≤ 65 → Logs (ended g x) ns (add-ending es x) q
-  unfolding ended add-ending if_then_else_
-  logs-ended x r =
-      split (eqb (x .ending) 0) (λ h. rw h l)
-      (λ h. let w : length (es ++ (x ∷ [])) ≤ 65 = rw h at r in
-      let z : g .«ending_count» < 65 = omega (arith, length-append es (x ∷ []), l .endings-are .count) in
-      rw (h, lt-leb 65 (g .«ending_count») z) (record { notes-are = l .notes-are; endings-are = listing-more no-ending x z (l .endings-are); operations-are = l .operations-are }))
+  pub added-one : {to : List A} {i : ℕ} → 0 < c → to ≡ set array n x → i ≡ n + 1 → Listing d 65 to i (added c xs x)
+  unfolding added if_then_else_
+  added-one h e g = rw (ne-eqb c 0 (λ z. omega arith), e, g) (listing-more d x (added-room h) (l .are))
 
-logs-said : {g : Log} {ns : List Note} {es : List Ending} {q : ℕ} → Logs g ns es q → (x : Note) (y : Ending) (r : ℕ) → length (add-note ns x) ≤ 65 → length (add-ending es y) ≤ 65
-    → Logs (said g x y r) (add-note ns x) (add-ending es y) (q + r)
-unfolding said
-logs-said l x y r a b =
-    let h = logs-ended (logs-noted l x a) y b in
-    record { notes-are = h .notes-are; endings-are = h .endings-are; operations-are = omega (arith, l .operations-are) }
+  pub added-none : {to : List A} {i : ℕ} → c ≤ 0 → to ≡ array → i ≡ n → Listing d 65 to i (added c xs x)
+  unfolding added if_then_else_
+  added-none h e g = rw (eq-eqb c 0 (omega arith), e, g) (l .are)
 
 -- THE LOOP, of one call on one sheet.
 module _ (f : Workflow) (l : Limits) (e : Event) (m : Mappings) (v₀ : Move) where
@@ -186,34 +146,61 @@ module _ (f : Workflow) (l : Limits) (e : Event) (m : Mappings) (v₀ : Move) wh
   abbrev Runs : (left : ℕ) → Machine → Type 0
   Runs left x = Settling (is-moving f (l .microsteps) e m) (advance f (l .microsteps) e m) at-end left x
 
-  first-bounds : (s : State) → s .«signal_count» ≤ 64 → v₀ ≡ apply f s e → Bounds (v₀ .next) 131 begun
-  first-bounds s r h = rw h (bounded-applied f (l .microsteps) e m s r)
+  -- The first move leaves room for what follows.
+  abbrev pub Begins : Type 0
+  Begins = Bounds (v₀ .next) 131 begun
 
-  -- What stands at the head of the loop, with so many moves left.
-  pub record Driving (left : ℕ) (v : Move) (g : Log) (microsteps : ℕ) : Type 0 where
+  pub begins : (s : State) → s .«signal_count» ≤ 64 → v₀ ≡ apply f s e → Begins
+  begins s r h = rw h (bounded-applied f (l .microsteps) e m s r)
+
+  -- From this machine on the moves lead to the end, and what they say has room.
+  pub record Going (x : Machine) : Type 0 where
+    pub runs : Runs (131 - x .microsteps) x
+    pub bounds : Bounds (x .next) (131 - x .microsteps) x
+
+  -- What stands at the head of the loop: the lists in their arrays, and a move that is made but has not been listed.
+  pub record Driving (v : Move) (notes : List Note) (endings : List Ending) (note-count ending-count operations microsteps : ℕ) : Type 0 where
     pub ns : List Note
     pub es : List Ending
-    pub logs : Logs g ns es (g .operations)
-    pub runs : Runs left (machine (v .state) (v .next) (v .order) ns es microsteps (g .operations))
-    pub bounds : Bounds (v .next) left (machine (v .state) (v .next) (v .order) ns es microsteps (g .operations))
-    pub few : g .operations + left * 8589934592 ≤ 1133871366144
+    pub notes-are : Listing no-note 65 notes note-count ns
+    pub endings-are : Listing no-ending 65 endings ending-count es
+    pub going : Going (machine (v .state) (v .next) (v .order) (add-note ns (v .note)) (add-ending es (v .ending)) microsteps (operations + operations-of (take (v .answers) (m .answers))))
+    pub few : operations ≤ microsteps * 8589934592
 
-  -- The event is applied.
-  pub driving-first : (s : State) (r : ℕ) → s .«signal_count» ≤ 64 → v₀ ≡ apply f s e → r ≡ operations-of (take (v₀ .answers) (m .answers)) → r ≤ 8589934592
-      → (g : Log) → g ≡ said no-log (v₀ .note) (v₀ .ending) r → Driving 131 v₀ g 0
-  driving-first s r h e₀ z w g u =
-      let b = first-bounds s h e₀ in
-      let l = logs-said logs-none (v₀ .note) (v₀ .ending) r (omega (arith, b .few-notes)) (omega (arith, b .few-endings)) in
-      let k : Logs g (add-note [] (v₀ .note)) (add-ending [] (v₀ .ending)) (0 + r) = rw u l in
-      let q : g .operations ≡ 0 + operations-of (take (v₀ .answers) (m .answers)) = omega (arith, k .operations-are) in
+  -- The same where it has been listed.
+  pub record Listed (v : Move) (notes : List Note) (endings : List Ending) (note-count ending-count operations microsteps : ℕ) : Type 0 where
+    pub ns : List Note
+    pub es : List Ending
+    pub notes-are : Listing no-note 65 notes note-count ns
+    pub endings-are : Listing no-ending 65 endings ending-count es
+    pub going : Going (machine (v .state) (v .next) (v .order) ns es microsteps operations)
+    pub few : operations ≤ (microsteps + 1) * 8589934592
+
+  pub driving-first : (x : Note) (y : Ending) → x ≡ no-note → y ≡ no-ending → Begins → Driving v₀ (replicate 65 x) (replicate 65 y) 0 0 0 0
+  driving-first x y h k b =
       record {
-        ns = add-note [] (v₀ .note);
-        es = add-ending [] (v₀ .ending);
-        logs = record { notes-are = k .notes-are; endings-are = k .endings-are; operations-are = refl };
-        runs = rw q (record { left = refl });
-        bounds = rw q b;
-        few = omega (arith, k .operations-are);
+        ns = [];
+        es = [];
+        notes-are = rw h (listing-none no-note);
+        endings-are = rw k (listing-none no-ending);
+        going = record { runs = record { left = refl }; bounds = b };
+        few = omega arith;
       }
+
+  -- The move is listed.
+  module _ {v : Move} {notes : List Note} {endings : List Ending} {n k q j : ℕ} (d : Driving v notes endings n k q j) where
+    pub adding-note : Adding no-note notes n (d .ns) (v .note .code) (v .note)
+    unfolding added add-note
+    adding-note = record { are = d .notes-are; fit = omega (arith, d .going .bounds .few-notes) }
+
+    pub adding-ending : Adding no-ending endings k (d .es) (v .ending .ending) (v .ending)
+    unfolding added add-ending
+    adding-ending = record { are = d .endings-are; fit = omega (arith, d .going .bounds .few-endings) }
+
+    pub listed : {a : List Note} {b : List Ending} {i o : ℕ} → Listing no-note 65 a i (added (v .note .code) (d .ns) (v .note)) → Listing no-ending 65 b o (added (v .ending .ending) (d .es) (v .ending))
+        → (r : ℕ) → r ≡ operations-of (take (v .answers) (m .answers)) → r ≤ 8589934592 → Listed v a b i o (q + r) j
+    unfolding added add-note add-ending
+    listed x y r h z = record { ns = add-note (d .ns) (v .note); es = add-ending (d .es) (v .ending); notes-are = x; endings-are = y; going = rw h (d .going); few = omega (arith, d .few) }
 
   -- A signal is found, or none is looked for: a microstep.
   moves : (t : State) (i : ℕ) (n : Next) → place-of f t n ≡ At i → moves-on f (l .microsteps) e m n ≡ true
@@ -235,17 +222,27 @@ module _ (f : Workflow) (l : Limits) (e : Event) (m : Mappings) (v₀ : Move) wh
   is-counted t i (Wants n j b) x z h = let w : _≡_ {A = ℕ} 0 1 = cc in absurd (omega arith)
   is-counted t i (Refuse k) x z h = let w : _≡_ {A = ℕ} 0 1 = cc in absurd (omega arith)
 
-  module _ {left : ℕ} {v : Move} {g : Log} {j : ℕ} (d : Driving left v g j) where
+  some-left : (t : State) (i : ℕ) (n : Next) (left : ℕ) (x : Machine) → place-of f t n ≡ At i → Bounds n left x → 0 < left
+  unfolding place-of
+  some-left t i Rest left x h b = let z : _≡_ {A = ℕ} 0 1 = cc in absurd (omega arith)
+  some-left t i (Enter n c) left x h b = omega (arith, b .enough)
+  some-left t i Take left x h b = omega (arith, b .enough)
+  some-left t i Consume left x h b = omega (arith, b .enough)
+  some-left t i (Wants n j c) left x h b = let z : _≡_ {A = ℕ} 0 1 = cc in absurd (omega arith)
+  some-left t i (Refuse k) left x h b = let z : _≡_ {A = ℕ} 0 1 = cc in absurd (omega arith)
+
+  module _ {v : Move} {notes : List Note} {endings : List Ending} {n k q j : ℕ} (d : Listed v notes endings n k q j) where
     abbrev x : Machine
-    x = machine (v .state) (v .next) (v .order) (d .ns) (d .es) j (g .operations)
+    x = machine (v .state) (v .next) (v .order) (d .ns) (d .es) j q
 
     -- Over the limit.
-    pub driving-over : (i : ℕ) → 0 < left → place-of f (v .state) (v .next) ≡ At i → l .microsteps ≤ j → decision-of (call.refused 26 none) ≡ decision-of (finish l at-end)
+    pub driving-over : (i : ℕ) → place-of f (v .state) (v .next) ≡ At i → l .microsteps ≤ j → decision-of (call.refused 26 none) ≡ decision-of (finish l at-end)
     unfolding counting finish-by
-    driving-over i p h o =
+    driving-over i h o =
+        let p = some-left (v .state) i (v .next) (131 - j) x h (d .going .bounds) in
         let c = is-counted (v .state) i (v .next) x refl h in
         let y : refused f (l .microsteps) e m x 26 ≡ advance f (l .microsteps) e m x = sym (if-true _ _ _ (lt-ltb (l .microsteps) (j + 1) (omega arith))) ∙ c in
-        let z = settled (settle-next (d .runs) p (sym (moves (v .state) i (v .next) h)) refl y) refl refl in
+        let z = settled (settle-next (d .going .runs) p (sym (moves (v .state) i (v .next) h)) refl y) refl refl in
         ap (λ (w : Machine). decision-of (finish l w)) z
 
     next-is : (i : ℕ) (u : Move) → place-of f (v .state) (v .next) ≡ At i → j < l .microsteps → u ≡ turn f e m (v .state) i (v .next)
@@ -253,62 +250,45 @@ module _ (f : Workflow) (l : Limits) (e : Event) (m : Mappings) (v₀ : Move) wh
     unfolding counting
     next-is i u h o z = rw z (sym (if-false _ _ _ (le-ltb (l .microsteps) (j + 1) (omega arith))) ∙ is-counted (v .state) i (v .next) x refl h)
 
-    next-bounds : (i : ℕ) (u : Move) → 0 < left → place-of f (v .state) (v .next) ≡ At i → j < l .microsteps → u ≡ turn f e m (v .state) i (v .next)
-        → Bounded f (l .microsteps) e m (left - 1) (made f (l .microsteps) e m (j + 1) x u)
-    next-bounds i u p h o z =
-        let t : left ≡ suc (left - 1) = omega arith in
-        subst (λ (w : Machine). Bounded f (l .microsteps) e m (left - 1) w) (sym (next-is i u h o z)) (bounded-advance f (l .microsteps) e m (left - 1) x (rw t at (d .bounds)))
-
-    -- The next move, with what it says.
-    pub driving-next : (i r : ℕ) (u : Move) (g′ : Log) → 0 < left → place-of f (v .state) (v .next) ≡ At i → j < l .microsteps → u ≡ turn f e m (v .state) i (v .next)
-        → r ≡ operations-of (take (u .answers) (m .answers)) → r ≤ 8589934592 → g′ ≡ said g (u .note) (u .ending) r → Driving (left - 1) u g′ (j + 1)
-    driving-next i r u g′ p h o z q w y =
-        let b = next-bounds i u p h o z in
-        let a = logs-said (d .logs) (u .note) (u .ending) r (omega (arith, b .few-notes)) (omega (arith, b .few-endings)) in
-        let k : Logs g′ (add-note (d .ns) (u .note)) (add-ending (d .es) (u .ending)) (g .operations + r) = rw y a in
-        let n : g′ .operations ≡ g .operations + operations-of (take (u .answers) (m .answers)) = omega (arith, k .operations-are) in
+    -- The next move.
+    pub driving-next : (i : ℕ) (u : Move) → place-of f (v .state) (v .next) ≡ At i → j < l .microsteps → u ≡ turn f e m (v .state) i (v .next)
+        → Driving u notes endings n k q (j + 1)
+    driving-next i u h o z =
+        let p = some-left (v .state) i (v .next) (131 - j) x h (d .going .bounds) in
+        let t : 131 - j ≡ suc (131 - (j + 1)) = omega arith in
+        let a : 131 - j - 1 ≡ 131 - (j + 1) = omega arith in
         record {
-          ns = add-note (d .ns) (u .note);
-          es = add-ending (d .es) (u .ending);
-          logs = record { notes-are = k .notes-are; endings-are = k .endings-are; operations-are = refl };
-          runs = rw n (settle-next (d .runs) p (sym (moves (v .state) i (v .next) h)) refl (next-is i u h o z));
-          bounds = rw n b;
-          few = omega (arith, d .few, k .operations-are);
+          ns = d .ns;
+          es = d .es;
+          notes-are = d .notes-are;
+          endings-are = d .endings-are;
+          going = record {
+            runs = rw a at (settle-next (d .going .runs) p (sym (moves (v .state) i (v .next) h)) refl (next-is i u h o z));
+            bounds = subst (λ (w : Machine). Bounded f (l .microsteps) e m (131 - (j + 1)) w) (sym (next-is i u h o z)) (bounded-advance f (l .microsteps) e m (131 - (j + 1)) x (rw t at (d .going .bounds)));
+          };
+          few = d .few;
         }
 
     -- No move follows.
-    resting : (t : State) (o : Order) → decide-by (rest-answer o l j (g .operations)) g t ≡ decision-of (finish-by Rest l (machine t Rest o (d .ns) (d .es) j (g .operations)))
-    unfolding decide-by rest-answer finish-by decision-of if_then_else_
+    resting : (t : State) (o : Order) → decide notes endings n k t (rest-answer o l j q) ≡ decision-of (finish-by Rest l (machine t Rest o (d .ns) (d .es) j q))
+    unfolding decide rest-answer finish-by decision-of if_then_else_
     resting t o =
         split (ltb (l .commands) (orders o)) (λ a. rw a)
-        (λ a. split (ltb (l .operations) (g .operations)) (λ b. rw (a, b))
-        (λ b. rw (a, b, d .logs .notes-are .is, d .logs .notes-are .count, d .logs .endings-are .is, d .logs .endings-are .count)))
+        (λ a. split (ltb (l .operations) q) (λ b. rw (a, b))
+        (λ b. rw (a, b, d .notes-are .is, d .notes-are .count, d .endings-are .is, d .endings-are .count)))
 
-    ends-by : (t : State) (y : Next) (o : Order) → place-of f t y ≡ Nothing → Runs left (machine t y o (d .ns) (d .es) j (g .operations))
-        → Bounds y left (machine t y o (d .ns) (d .es) j (g .operations)) → decide g y o l j t ≡ decision-of (finish l at-end)
-    unfolding place-of answer-of finish-by advance-by consume-by operations-of decide-by
+    ends-by : (t : State) (y : Next) (o : Order) → place-of f t y ≡ Nothing → Runs (131 - j) (machine t y o (d .ns) (d .es) j q)
+        → Bounds y (131 - j) (machine t y o (d .ns) (d .es) j q) → decide notes endings n k t (answer-of y o l j q) ≡ decision-of (finish l at-end)
+    unfolding place-of answer-of finish-by advance-by consume-by operations-of decide
     ends-by t Rest o h r b = resting t o ∙ ap (λ (w : Machine). decision-of (finish l w)) (settled r refl refl)
     ends-by t (Enter i c) o h r b = let z : _≡_ {A = ℕ} 0 1 = cc in absurd (omega arith)
     ends-by t Take o h r b = let z : _≡_ {A = ℕ} 0 1 = cc in absurd (omega arith)
     ends-by t Consume o h r b =
-        let y : machine t Rest Order.Nothing (d .ns) (d .es) j (g .operations) ≡ advance f (l .microsteps) e m (machine t Consume o (d .ns) (d .es) j (g .operations)) =
+        let y : machine t Rest Order.Nothing (d .ns) (d .es) j q ≡ advance f (l .microsteps) e m (machine t Consume o (d .ns) (d .es) j q) =
         rw (h, same-notes (d .ns) no-note refl, same-endings (d .es) no-ending refl) (ap (machine t Rest Order.Nothing (d .ns) (d .es) j) (omega arith)) in
         resting t Order.Nothing ∙ ap (λ (w : Machine). decision-of (finish l w)) (settled (settle-next r (omega (arith, b .enough)) refl refl y) refl refl)
     ends-by t (Wants i z c) o h r b = ap (λ (w : Machine). decision-of (finish l w)) (settled r refl refl)
     ends-by t (Refuse i) o h r b = ap (λ (w : Machine). decision-of (finish l w)) (settled r refl refl)
 
-    pub driving-ends : place-of f (v .state) (v .next) ≡ Nothing → decide g (v .next) (v .order) l j (v .state) ≡ decision-of (finish l at-end)
-    driving-ends h = ends-by (v .state) (v .next) (v .order) h (d .runs) (d .bounds)
-
-    -- With no move left none follows.
-    none-left : (t : State) (y : Next) (x : Machine) → left ≡ 0 → Bounds y left x → place-of f t y ≡ Nothing
-    unfolding place-of
-    none-left t Rest x z b = refl
-    none-left t (Enter i c) x z b = absurd (omega (arith, b .enough))
-    none-left t Take x z b = absurd (omega (arith, b .enough))
-    none-left t Consume x z b = absurd (omega (arith, b .enough))
-    none-left t (Wants i w c) x z b = refl
-    none-left t (Refuse i) x z b = refl
-
-    pub driving-out : left ≡ 0 → decide g (v .next) (v .order) l j (v .state) ≡ decision-of (finish l at-end)
-    driving-out z = driving-ends (none-left (v .state) (v .next) x z (d .bounds))
+    pub driving-ends : place-of f (v .state) (v .next) ≡ Nothing → decide notes endings n k (v .state) (answer-of (v .next) (v .order) l j q) ≡ decision-of (finish l at-end)
+    driving-ends h = ends-by (v .state) (v .next) (v .order) h (d .going .runs) (d .going .bounds)

@@ -18,110 +18,14 @@ use workflow::Found;
 use workflow::NUMBERS;
 use workflow::code;
 ghost use mathlib.Core.Path.{_≡_};
-ghost use Prim.Native.Nat.{_+_, _^_, _<_, _≤_};
+ghost use Prim.Native.Nat.{_≤_};
 ghost use lib.ListN.{take};
 ghost use Rattle.workflow.specs.View.{workflow};
 ghost use Rattle.model.specs.Step.{arrival};
 ghost use Rattle.kernel.specs.Drive.{operations-of, driven};
 ghost use Rattle.kernel.specs.Call.{wants, refused, orders, finish};
 ghost use Rattle.kernel.specs.Decision.{decision-of};
-ghost use Rattle.kernel.specs.DriveLaws.{no-log, noted, ended, said, decide, place-of, turn, rest-answer, answer-of, at-end, Driving};
-
-// What a call has said and counted so far.
-pub struct Log {
-    pub notes: [Note; 65],
-    pub endings: [Ending; 65],
-    pub operations: u64,
-    pub note_count: u32,
-    pub ending_count: u32,
-}
-
-impl Log {
-    fn none() -> Log
-        ensures { λ r. ⌜ r ≡ no-log ⌝ }
-    {
-        Log {
-            notes: [no_note(); 65],
-            endings: [no_ending(); 65],
-            operations: 0,
-            note_count: 0,
-            ending_count: 0,
-        }
-    }
-
-    // A note is listed, if it is one and there is room.
-    fn noted(mut self, note: Note) -> Log
-        ensures { λ r. ⌜ r ≡ noted self note ⌝ }
-    {
-        let n = self.note_count as usize;
-        if note.code == 0 {
-            return self;
-        }
-        if 65 <= n {
-            return self;
-        }
-        self.notes[n] = note;
-        self.note_count = self.note_count + 1;
-        self
-    }
-
-    // An ending is listed, if it is one and there is room.
-    fn ended(mut self, ending: Ending) -> Log
-        ensures { λ r. ⌜ r ≡ ended self ending ⌝ }
-    {
-        let n = self.ending_count as usize;
-        if ending.ending == 0 {
-            return self;
-        }
-        if 65 <= n {
-            return self;
-        }
-        self.endings[n] = ending;
-        self.ending_count = self.ending_count + 1;
-        self
-    }
-
-    // What a move says is listed, and the operations of the mapping answers that it read are added.
-    fn said(self, note: Note, ending: Ending, operations: u64) -> Log
-        requires { ⌜ self .operations + operations < 2 ^ 64 ⌝ }
-        ensures { λ r. ⌜ r ≡ said self note ending operations ⌝ }
-    {
-        let listed = self.noted(note);
-        let mut log = listed.ended(ending);
-        log.operations = self.operations + operations;
-        log
-    }
-
-    // The answer where no move follows: a want has no notes and no endings, a refusal no record besides.
-    fn decide(
-        self,
-        next: Next,
-        order: Order,
-        limits: Limits,
-        microsteps: u32,
-        state: State,
-    ) -> Decision
-        ensures { λ r. ⌜ r ≡ decide self next order limits microsteps state ⌝ }
-    {
-        let answer = answer_of(next, order, limits, microsteps, self.operations);
-        match answer {
-            Answer::Next { order, microsteps } => {
-                let notes = self.notes;
-                let endings = self.endings;
-                Decision {
-                    notes,
-                    endings,
-                    note_count: self.note_count,
-                    ending_count: self.ending_count,
-                    answer: Answer::Next { order, microsteps },
-                    state,
-                }
-            }
-            Answer::Wants { node, field, from } => want(node, field, from, state),
-            Answer::Refused { number, item } => refusal(number, item),
-        }
-    }
-}
+ghost use Rattle.kernel.specs.DriveLaws.{decide, place-of, turn, rest-answer, answer-of, at-end, Begins};
 
 // The signal that arrived.
 fn arrival(event: Event) -> BufferedSignal
@@ -283,38 +187,73 @@ fn want(node: u32, field: u32, from: u32, state: State) -> Decision
     }
 }
 
-// Moves follow until nothing is next. Each is counted against the limit before it is made.
+// The answer where no move follows: a want has no notes and no endings, a refusal no record besides.
+fn decide(
+    notes: [Note; 65],
+    endings: [Ending; 65],
+    note_count: u32,
+    ending_count: u32,
+    answer: Answer,
+    state: State,
+) -> Decision
+    ensures { λ r. ⌜ r ≡ decide notes endings «note_count» «ending_count» state answer ⌝ }
+{
+    match answer {
+        Answer::Next { order, microsteps } => Decision {
+            notes,
+            endings,
+            note_count,
+            ending_count,
+            answer: Answer::Next { order, microsteps },
+            state,
+        },
+        Answer::Wants { node, field, from } => want(node, field, from, state),
+        Answer::Refused { number, item } => refusal(number, item),
+    }
+}
+
+// What a move says is listed, and the next is made, until none follows. Each is counted against the limit before it is made.
 fn run(
     w: &[u32; NUMBERS],
     mut v: Move,
-    mut log: Log,
     limits: Limits,
     event: Event,
     mappings: Mappings,
 ) -> Decision
-    requires { ⌜ Driving (workflow (now w)) limits event mappings v 131 v log 0 ⌝ }
+    requires { ⌜ Begins (workflow (now w)) limits event mappings v ⌝ }
     ensures { λ r. ⌜ r ≡ decision-of (finish limits (at-end (workflow (now (w .entry))) limits event mappings v)) ⌝ }
 {
+    let mut notes: [Note; 65] = [no_note(); 65];
+    let mut endings: [Ending; 65] = [no_ending(); 65];
+    let mut note_count: u32 = 0;
+    let mut ending_count: u32 = 0;
+    let mut operations: u64 = 0;
     let mut microsteps: u32 = 0;
-    let mut left: u32 = 131;
-    while 0 < left {
+    loop {
+        let note = v.note;
+        if 0 < note.code {
+            notes[note_count as usize] = note;
+            note_count += 1;
+        }
+        let ending = v.ending;
+        if 0 < ending.ending {
+            endings[ending_count as usize] = ending;
+            ending_count += 1;
+        }
+        operations += operations_of(mappings, v.answers);
         let next = v.next;
         let found = place_of(w, v.state, next);
         let Found::At(place) = found else {
             let order = v.order;
-            return log.decide(next, order, limits, microsteps, v.state);
+            let answer = answer_of(next, order, limits, microsteps, operations);
+            return decide(notes, endings, note_count, ending_count, answer, v.state);
         };
         if limits.microsteps <= microsteps {
             return refusal(26, code::NONE);
         }
         v = turn(w, v.state, next, place, event, mappings);
-        log = log.said(v.note, v.ending, operations_of(mappings, v.answers));
         microsteps += 1;
-        left -= 1;
     }
-    let next = v.next;
-    let order = v.order;
-    log.decide(next, order, limits, microsteps, v.state)
 }
 
 // The event is applied, and what follows is done.
@@ -329,7 +268,5 @@ pub fn drive(
     ensures { λ r. ⌜ r ≡ decision-of (finish limits (driven (workflow (now (w .entry))) (limits .microsteps) event mappings s)) ⌝ }
 {
     let v = s.apply(w, event);
-    let none = Log::none();
-    let log = none.said(v.note, v.ending, operations_of(mappings, v.answers));
-    run(w, v, log, limits, event, mappings)
+    run(w, v, limits, event, mappings)
 }

@@ -1,96 +1,137 @@
 use borrow.Author.Needs.{needs}
 use native.Mathlib.Omega.{arith}
-use mathlib.Core.Path.{_≡_, sym, _∙_}
+use Prim.Native.Nat.{_+_, _-_, _<_}
+use mathlib.Core.Path.{sym, _∙_}
+use mathlib.Core.Logic.{⊎-elim}
 use Rattle.workflow.specs.View.{workflow}
-use Rattle.kernel.specs.DriveLaws.{Driving, driving-next, driving-over, driving-ends, driving-out}
+use Rattle.kernel.specs.DriveLaws.{Driving, Listed, driving-first, adding-note, adding-ending, added-room, added-one, added-none, listed, driving-next, driving-over, driving-ends}
 use Rattle.kernel.proofs.drive.run.Statement.{statement}
 use Rattle.kernel.proofs.drive.run.Tie as tie
 use Rattle.kernel.proofs.drive.run.Reads as reads
 use Rattle.kernel.proofs.drive.run.Lts as lts
-use Rattle.kernel.proofs.drive.Log.decide.Reads as decide-reads
-use Rattle.kernel.proofs.drive.Log.said.Reads as said-reads
+use Rattle.kernel.proofs.drive.answer_of.Reads as answer-of-reads
+use Rattle.kernel.proofs.drive.decide.Reads as decide-reads
 use Rattle.kernel.proofs.drive.operations_of.Reads as operations-of-reads
 use Rattle.kernel.proofs.drive.place_of.Reads as place-of-reads
 use Rattle.kernel.proofs.drive.refusal.Reads as refusal-reads
 use Rattle.kernel.proofs.drive.turn.Reads as turn-reads
+use Rattle.model.proofs.moves.no_ending.Reads as no-ending-reads
+use Rattle.model.proofs.moves.no_note.Reads as no-note-reads
 
 abbrev Inv-loop : tie.InvT-loop
-Inv-loop w v₀ log₀ limits event mappings microsteps₀ left₀ v log microsteps left = Driving (workflow w) limits event mappings v₀ left v log microsteps
+Inv-loop w v₀ limits event mappings notes₀ endings₀ note-count₀ ending-count₀ operations₀ microsteps₀ v notes endings note-count ending-count operations microsteps =
+    Driving (workflow w) limits event mappings v₀ v notes endings note-count ending-count operations microsteps
 
 abbrev μ-loop : tie.MeasureT-loop
-μ-loop w v₀ log₀ limits event mappings microsteps₀ left₀ v log microsteps left = left
+μ-loop w v₀ limits event mappings notes₀ endings₀ note-count₀ ending-count₀ operations₀ microsteps₀ v notes endings note-count ending-count operations microsteps = 131 - microsteps
 
--- src/drive.rt:300:5
+-- There is room for what the move says.
+note-fits : (c : tie.Then1 Inv-loop μ-loop) → c .before .before .before .loop .note-count < 65
+note-fits c = added-room (adding-note _ _ _ _ _ (c .before .before .before .loop .inv)) (c .if1 .taken)
+
+ending-fits : (c : tie.Then2 Inv-loop μ-loop) → c .before .before .before .before .before .before .loop .ending-count < 65
+ending-fits c = added-room (adding-ending _ _ _ _ _ (c .before .before .before .before .before .before .loop .inv)) (c .if2 .taken)
+
+-- What the move says is listed.
+module _ (c : tie.After-operations-of Inv-loop μ-loop) where
+  abbrev head : tie.At-loop Inv-loop μ-loop
+  head = c .before .before .before .before .before .before .before
+
+  abbrev start : tie.Start Inv-loop μ-loop
+  start = head .before .before .before
+
+  says :
+      Listed (workflow (start .args .w .now)) (start .args .limits) (start .args .event) (start .args .mappings) (start .args .v)
+      (head .loop .v) (c .before .before .before .before .if1 .notes) (c .before .if2 .endings) (c .before .before .before .before .if1 .note-count) (c .before .if2 .ending-count)
+      (head .loop .operations + c .operations-of .result) (head .loop .microsteps)
+  says =
+      let d = head .loop .inv in
+      listed _ _ _ _ _ d
+      (⊎-elim (λ w. added-one (adding-note _ _ _ _ _ d) (w .0 .taken) (w .1) (w .2)) (λ w. added-none (adding-note _ _ _ _ _ d) (w .0 .left) (w .1) (w .2)) (c .before .before .before .before .if1 .came))
+      (⊎-elim (λ w. added-one (adding-ending _ _ _ _ _ d) (w .0 .taken) (w .1) (w .2)) (λ w. added-none (adding-ending _ _ _ _ _ d) (w .0 .left) (w .1) (w .2)) (c .before .if2 .came))
+      _ (c .operations-of .ensures .0) (c .operations-of .ensures .1)
+
+no-note-requires : tie.Need-no-note-requires Inv-loop μ-loop
+no-note-requires c κs = search needs
+
+no-ending-requires : tie.Need-no-ending-requires Inv-loop μ-loop
+no-ending-requires c κs = search needs
+
 loop-holds : tie.Need-loop-holds Inv-loop μ-loop
-loop-holds c = c .pre
+loop-holds c =
+    driving-first _ _ _ _ _ _ _ (c .before .no-note .ensures) (c .no-ending .ensures) (c .before .before .pre)
 
--- src/drive.rt:302:13
-place-of-requires : tie.Need-place-of-requires Inv-loop μ-loop
-place-of-requires c κs = search needs
+cast-notes : tie.Need-cast-notes Inv-loop μ-loop
+cast-notes c = omega (arith, note-fits c)
 
--- src/drive.rt:303:23
-enum-known-found : tie.Need-enum-known-found Inv-loop μ-loop
-enum-known-found c = search needs
+mul-notes : tie.Need-mul-notes Inv-loop μ-loop
+mul-notes c = omega (arith, note-fits c)
 
--- src/drive.rt:304:17
-enum-told : tie.Need-enum-told Inv-loop μ-loop
-enum-told c = search needs
+array-set-from-notes : tie.Need-array-set-from-notes Inv-loop μ-loop
+array-set-from-notes c = note-fits c
 
--- src/drive.rt:305:13
-decide-requires : tie.Need-decide-requires Inv-loop μ-loop
-decide-requires c κs = search needs
+add-note-count : tie.Need-add-note-count Inv-loop μ-loop
+add-note-count c = omega (arith, note-fits c)
 
--- src/drive.rt:305:13
-returns : tie.Need-returns Inv-loop μ-loop
-returns c =
-    rw (c .decide .ensures) (driving-ends _ _ _ _ _ (c .before .before .before .before .before .loop .inv) (sym (c .before .before .before .place-of .ensures) ∙ c .before .enum-told .given .1))
+cast-endings : tie.Need-cast-endings Inv-loop μ-loop
+cast-endings c = omega (arith, ending-fits c)
 
--- src/drive.rt:308:13
-refusal-requires : tie.Need-refusal-requires Inv-loop μ-loop
-refusal-requires c κs = search needs
+mul-endings : tie.Need-mul-endings Inv-loop μ-loop
+mul-endings c = omega (arith, ending-fits c)
 
--- src/drive.rt:308:13
-returns-2 : tie.Need-returns-2 Inv-loop μ-loop
-returns-2 c =
-    rw (c .refusal .ensures) (driving-over _ _ _ _ _ (c .before .before .before .before .before .before .before .before .loop .inv) _ (c .before .before .before .before .before .before .before .loop-test .taken) (sym (c .before .before .before .before .before .before .place-of .ensures) ∙ c .before .before .before .before .found .given .1) (c .before .if1 .taken))
+array-set-from-endings : tie.Need-array-set-from-endings Inv-loop μ-loop
+array-set-from-endings c = ending-fits c
 
--- src/drive.rt:310:9
-turn-requires : tie.Need-turn-requires Inv-loop μ-loop
-turn-requires c κs = search needs
+add-ending-count : tie.Need-add-ending-count Inv-loop μ-loop
+add-ending-count c = omega (arith, ending-fits c)
 
--- src/drive.rt:311:42
 operations-of-requires : tie.Need-operations-of-requires Inv-loop μ-loop
 operations-of-requires c κs = search needs
 
--- src/drive.rt:311:9
-said-requires : tie.Need-said-requires Inv-loop μ-loop
-said-requires c κs = omega (arith, c .operations-of .ensures .1, c .before .before .before .before .before .before .before .before .before .loop .inv .few)
+add-operations : tie.Need-add-operations Inv-loop μ-loop
+add-operations c =
+    let d = c .before .before .before .before .before .before .before .loop .inv in omega (arith, c .operations-of .ensures .1, d .few, d .going .bounds .steps)
 
--- src/drive.rt:312:9
+place-of-requires : tie.Need-place-of-requires Inv-loop μ-loop
+place-of-requires c κs = search needs
+
+enum-known-found : tie.Need-enum-known-found Inv-loop μ-loop
+enum-known-found c = search needs
+
+enum-told : tie.Need-enum-told Inv-loop μ-loop
+enum-told c = search needs
+
+answer-of-requires : tie.Need-answer-of-requires Inv-loop μ-loop
+answer-of-requires c κs = search needs
+
+decide-requires : tie.Need-decide-requires Inv-loop μ-loop
+decide-requires c κs = search needs
+
+returns : tie.Need-returns Inv-loop μ-loop
+returns c =
+    rw (c .decide .ensures, c .before .answer-of .ensures) (driving-ends _ _ _ _ _ (says (c .before .before .before .before .before)) (sym (c .before .before .before .before .place-of .ensures) ∙ c .before .before .enum-told .given .1))
+
+refusal-requires : tie.Need-refusal-requires Inv-loop μ-loop
+refusal-requires c κs = search needs
+
+returns-2 : tie.Need-returns-2 Inv-loop μ-loop
+returns-2 c =
+    rw (c .refusal .ensures) (driving-over _ _ _ _ _ (says (c .before .before .before .before .before .before .before)) _ (sym (c .before .before .before .before .before .before .place-of .ensures) ∙ c .before .before .before .before .found .given .1) (c .before .if3 .taken))
+
+turn-requires : tie.Need-turn-requires Inv-loop μ-loop
+turn-requires c κs = search needs
+
 add-microsteps : tie.Need-add-microsteps Inv-loop μ-loop
-add-microsteps c = search needs
+add-microsteps c =
+    omega (arith, c .before .before .before .before .before .before .before .before .before .before .before .before .before .before .loop .inv .going .bounds .steps)
 
--- src/drive.rt:313:9
-sub-left : tie.Need-sub-left Inv-loop μ-loop
-sub-left c = search needs
-
--- src/drive.rt:300:5
 loop-less : tie.Need-loop-less Inv-loop μ-loop
-loop-less c = search needs
+loop-less c =
+    omega (arith, c .before .before .before .before .before .before .before .before .before .before .before .before .before .before .loop .inv .going .bounds .steps)
 
--- src/drive.rt:300:5
 loop-again : tie.Need-loop-again Inv-loop μ-loop
 loop-again c =
-    driving-next _ _ _ _ _ (c .before .before .before .before .before .before .before .before .before .before .loop .inv) _ _ _ _ (c .before .before .before .before .before .before .before .before .before .loop-test .taken) (sym (c .before .before .before .before .before .before .before .before .place-of .ensures) ∙ c .before .before .before .before .before .before .found .given .1) (c .before .before .before .if1 .left) (c .before .before .turn .ensures) (c .before .operations-of .ensures .0) (c .before .operations-of .ensures .1) (c .said .ensures)
-
--- src/drive.rt:317:5
-decide-requires-2 : tie.Need-decide-requires-2 Inv-loop μ-loop
-decide-requires-2 c κs = search needs
-
--- src/drive.rt:287:1
-returns-3 : tie.Need-returns-3 Inv-loop μ-loop
-returns-3 c =
-    rw (c .decide2 .ensures) (driving-out _ _ _ _ _ (c .before .before .loop .inv) (omega (arith, c .before .loop-test .left)))
+    driving-next _ _ _ _ _ (says (c .before .before .before .before .before .before .before)) _ _ (sym (c .before .before .before .before .before .before .place-of .ensures) ∙ c .before .before .before .before .found .given .1) (c .before .if3 .left) (c .turn .ensures)
 
 pub run-spec : {M : Type 1} → statement M
 run-spec =
@@ -98,20 +139,28 @@ run-spec =
     (tie.spec
     Inv-loop
     μ-loop
+    no-note-requires
+    no-ending-requires
     loop-holds
+    cast-notes
+    mul-notes
+    array-set-from-notes
+    add-note-count
+    cast-endings
+    mul-endings
+    array-set-from-endings
+    add-ending-count
+    operations-of-requires
+    add-operations
     place-of-requires
     enum-known-found
     enum-told
+    answer-of-requires
     decide-requires
     returns
     refusal-requires
     returns-2
     turn-requires
-    operations-of-requires
-    said-requires
     add-microsteps
-    sub-left
     loop-less
-    loop-again
-    decide-requires-2
-    returns-3)
+    loop-again)

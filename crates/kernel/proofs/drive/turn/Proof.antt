@@ -1,5 +1,4 @@
 use Rattle.kernel.specs.DriveLaws.{turn}
-use Rattle.kernel.specs.DriveLaws.{turn}
 use borrow.Author.Needs.{needs}
 use Rattle.kernel.proofs.drive.turn.Statement.{statement}
 use Rattle.kernel.proofs.drive.turn.Tie as tie
