@@ -1,12 +1,9 @@
 /* A start on the sheet of Joint A (document 01), through the header: node 0 is scheduled. */
-#include "kuxhoveza.h"
+#include "joint_a.h"
 
 #include <stdio.h>
-#include <string.h>
 
-static uint32_t sheet[KUXHOVEZA_SHEET];
-static uint64_t call[KUXHOVEZA_CALL], record[KUXHOVEZA_RECORD];
-static uint64_t answer[KUXHOVEZA_ANSWER], untouched[KUXHOVEZA_ANSWER];
+static uint64_t untouched[KUXHOVEZA_ANSWER];
 static int failures;
 
 static void is(const char *what, uint64_t found, uint64_t expected)
@@ -17,53 +14,6 @@ static void is(const char *what, uint64_t found, uint64_t expected)
     }
 }
 
-static void route(uint32_t row, uint32_t node, uint32_t outcome, uint32_t target)
-{
-    sheet[KUXHOVEZA_SHEET_ROUTE_NODE + row] = node;
-    sheet[KUXHOVEZA_SHEET_ROUTE_OUTCOME + row] = outcome;
-    sheet[KUXHOVEZA_SHEET_ROUTE_TARGET + row] = target;
-}
-
-static void joint_a(void)
-{
-    sheet[KUXHOVEZA_SHEET_FORMAT] = 2;
-    sheet[KUXHOVEZA_SHEET_MAX_VISITS] = 3;
-    sheet[KUXHOVEZA_SHEET_MAX_ACTIVATIONS] = 10;
-    sheet[KUXHOVEZA_SHEET_NODES] = 4;
-    for (uint32_t node = 0; node < 4; node++)
-        sheet[KUXHOVEZA_SHEET_NODE_KIND + node] = node + 1;
-    sheet[KUXHOVEZA_SHEET_NODE_SIGNAL + 1] = 5;
-    sheet[KUXHOVEZA_SHEET_NODE_HAS_LIMITS + 1] = 1;
-    sheet[KUXHOVEZA_SHEET_ROUTES] = 4;
-    route(0, 0, 0, 1);
-    route(1, 1, 1, 2);
-    route(2, 1, 3, 3);
-    route(3, 1, 4, 0);
-    sheet[KUXHOVEZA_SHEET_LIMITS] = 1;
-    sheet[KUXHOVEZA_SHEET_LIMIT_NODE] = 1;
-    sheet[KUXHOVEZA_SHEET_LIMIT_OUTCOME] = 4;
-    sheet[KUXHOVEZA_SHEET_LIMIT_LIMIT] = 1;
-    sheet[KUXHOVEZA_SHEET_ACTIONS] = 1;
-    sheet[KUXHOVEZA_SHEET_ACTION_EFFECT] = 1;
-    sheet[KUXHOVEZA_SHEET_ACTION_MAX_ATTEMPTS] = 2;
-    sheet[KUXHOVEZA_SHEET_DECLARED] = 1;
-}
-
-static void start(void)
-{
-    for (size_t ceiling = 0; ceiling < 4; ceiling++)
-        call[KUXHOVEZA_CALL_CEILING_NODES + ceiling] = 64;
-    call[KUXHOVEZA_CALL_LIMIT_MICROSTEPS] = 130;
-    call[KUXHOVEZA_CALL_LIMIT_COMMANDS] = 10;
-    call[KUXHOVEZA_CALL_LIMIT_OPERATIONS] = 10;
-    call[KUXHOVEZA_CALL_SEQUENCE] = 1;
-    call[KUXHOVEZA_CALL_KIND] = 1;
-    call[KUXHOVEZA_CALL_INPUT] = 42;
-    call[KUXHOVEZA_CALL_ANSWERED] = 1;
-    call[KUXHOVEZA_CALL_MAPPINGS] = 1;
-    call[KUXHOVEZA_CALL_MAPPINGS + 1] = 501;
-}
-
 static uint32_t transition(size_t length)
 {
     return kuxhoveza_transition(sheet, call, record, answer, length);
@@ -72,7 +22,8 @@ static uint32_t transition(size_t length)
 int main(void)
 {
     joint_a();
-    start();
+    call_with(1, 1);
+    call[KUXHOVEZA_CALL_INPUT] = 42;
     memset(answer, 0xff, sizeof answer);
     memset(untouched, 0xff, sizeof untouched);
 
