@@ -3,7 +3,7 @@
 use calls::numbers::{self, ANSWER, CALL, RECORD, SHEET};
 use calls::{Answer, Call};
 use generator::rng::{Rng, EDGES, LONG_EDGES};
-use kuxhoveza::{Ceilings, Fault, Refusal};
+use kuxhoveza::{layout, Ceilings, Fault, Refusal};
 
 use crate::shrink::each_number;
 
@@ -82,8 +82,20 @@ impl Asked {
         ours != theirs
     }
 
-    /// Some numbers changed to what their fields may or may not hold, and a buffer of any length.
+    /// Some numbers changed to what their fields may or may not hold, and a buffer of any length. At times every output
+    /// is an error first, so that all its numbers have a meaning.
     fn damage(&mut self, rng: &mut Rng) {
+        if rng.one_in(4) {
+            self.record[layout::RECORD_HAS_ERROR] = 1;
+            self.record[layout::RECORD_RESULT] = 2;
+            for result in self.record[layout::RECORD_RESULTS..].chunks_mut(layout::RESULT_WIDTH) {
+                result[2] = 2;
+            }
+        }
+        let place = |rng: &mut Rng, length| match rng.one_in(8) {
+            true => length - 1,
+            false => rng.below(length),
+        };
         for _ in 0..rng.below(3) {
             let number = match rng.below(3) {
                 0 => u64::from(rng.pick(&EDGES)),
@@ -91,8 +103,8 @@ impl Asked {
                 _ => rng.next() >> rng.below(64),
             };
             match rng.below(2) {
-                0 => self.call[rng.below(CALL)] = number,
-                _ => self.record[rng.below(RECORD)] = number,
+                0 => self.call[place(rng, CALL)] = number,
+                _ => self.record[place(rng, RECORD)] = number,
             }
         }
         if rng.percent(30) {
