@@ -158,7 +158,7 @@ extern "C" {
 
 /* One call: writes the answer into the first KUXHOVEZA_ANSWER numbers of the buffer and returns KUXHOVEZA_WRITTEN.
  * Or returns why not, and leaves the buffer as it was: it is shorter than that; the call has a number that its field
- * can't hold; the record has one. The record is looked at only where number KUXHOVEZA_CALL_HAS_RECORD of the call is
+ * can't hold; the record has one. The record counts only where number KUXHOVEZA_CALL_HAS_RECORD of the call is
  * 1, and must be lent all the same. The buffer must not overlap the other arrays. */
 uint32_t kuxhoveza_transition(const uint32_t sheet[KUXHOVEZA_SHEET], const uint64_t call[KUXHOVEZA_CALL],
                               const uint64_t record[KUXHOVEZA_RECORD], uint64_t *answer, size_t answer_len);

@@ -64,7 +64,7 @@ static NO_RECORD: Record = [0; layout::RECORD];
 
 /// One call: writes its answer into the first numbers of the buffer, `layout::ANSWER` of them.
 ///
-/// The record is looked at only where the call's number `layout::CALL_HAS_RECORD` is 1; none is one of zeros.
+/// The record counts only where the call's number `layout::CALL_HAS_RECORD` is 1; none is one of zeros.
 pub fn transition(
     sheet: &Sheet,
     call: &Call,
