@@ -42,7 +42,7 @@ static void show(const char *what)
 {
     size_t taken = depth(transition) - depth(nothing);
     printf("%s: %zu bytes\n", what, taken);
-    if (answer[KUXHOVEZA_ANSWER_KIND] == 1)
+    if (answer[KUXHOVEZA_ANSWER_KIND] == KUXHOVEZA_NEXT)
         memcpy(record, answer + KUXHOVEZA_ANSWER_RECORD, sizeof record);
 }
 

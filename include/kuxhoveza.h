@@ -11,33 +11,30 @@
 extern "C" {
 #endif
 
-/* Lengths of the arrays. */
-#define KUXHOVEZA_SHEET 4169
-#define KUXHOVEZA_CALL 38
-#define KUXHOVEZA_RECORD 918
-#define KUXHOVEZA_ANSWER 1386
+/* Lengths of the arrays (SHEET, RECORD, CALL, ANSWER), capacities, widths of rows, and offsets. A field of a sheet's row
+ * stands at the offset of its column and the row's number; elsewhere the numbers of a row stand side by side. */
 
-/* Capacities. */
+/* Layout, written by tools/layout from crates/workflow/src/layout.rt and crates/host/src/layout.rt. */
+
+/* How many rows of each sort there is room for. */
 #define KUXHOVEZA_NODES 64
 #define KUXHOVEZA_ROUTES 512
 #define KUXHOVEZA_LIMITS 512
 #define KUXHOVEZA_ACTIONS 64
 #define KUXHOVEZA_DECLARED 256
-#define KUXHOVEZA_STORE 64
-#define KUXHOVEZA_MAPPINGS 2
-#define KUXHOVEZA_NOTES 65
-#define KUXHOVEZA_ENDINGS 65
 
-/* Sheet: single numbers, then the first number of each column. */
+/* Single numbers. */
 #define KUXHOVEZA_SHEET_FORMAT 0
 #define KUXHOVEZA_SHEET_START 1
-#define KUXHOVEZA_SHEET_MAX_VISITS 2
+#define KUXHOVEZA_SHEET_MAX_VISITS_PER_NODE 2
 #define KUXHOVEZA_SHEET_MAX_ACTIVATIONS 3
-#define KUXHOVEZA_SHEET_NODES 4
-#define KUXHOVEZA_SHEET_ROUTES 5
-#define KUXHOVEZA_SHEET_LIMITS 6
-#define KUXHOVEZA_SHEET_ACTIONS 7
-#define KUXHOVEZA_SHEET_DECLARED 8
+#define KUXHOVEZA_SHEET_NODE_COUNT 4
+#define KUXHOVEZA_SHEET_ROUTE_COUNT 5
+#define KUXHOVEZA_SHEET_LIMIT_COUNT 6
+#define KUXHOVEZA_SHEET_ACTION_COUNT 7
+#define KUXHOVEZA_SHEET_DECLARED_COUNT 8
+
+/* A column for each field of a row. */
 #define KUXHOVEZA_SHEET_NODE_KIND 9
 #define KUXHOVEZA_SHEET_NODE_ACTION 73
 #define KUXHOVEZA_SHEET_NODE_HAS_PARAMS 137
@@ -56,8 +53,26 @@ extern "C" {
 #define KUXHOVEZA_SHEET_DECLARED_ACTION 3657
 #define KUXHOVEZA_SHEET_DECLARED_OUTCOME 3913
 
-/* Run record. An output is OUTPUT_WIDTH numbers: its kind, the handle or the error's code, the error's node and detail. */
+/* All numbers of a sheet. */
+#define KUXHOVEZA_SHEET 4169
+
+/* Capacities. */
+#define KUXHOVEZA_STORE 64
+#define KUXHOVEZA_MAPPINGS 2
+#define KUXHOVEZA_NOTES 65
+#define KUXHOVEZA_ENDINGS 65
+
+/* How many numbers a row has. */
+#define KUXHOVEZA_ERROR_WIDTH 4
 #define KUXHOVEZA_OUTPUT_WIDTH 4
+#define KUXHOVEZA_SIGNAL_WIDTH 5
+#define KUXHOVEZA_STREAK_WIDTH 2
+#define KUXHOVEZA_RESULT_WIDTH 6
+#define KUXHOVEZA_MAPPING_WIDTH 5
+#define KUXHOVEZA_NOTE_WIDTH 5
+#define KUXHOVEZA_ENDING_WIDTH 2
+
+/* Run record. */
 #define KUXHOVEZA_RECORD_STATUS 0
 #define KUXHOVEZA_RECORD_INPUT 1
 #define KUXHOVEZA_RECORD_ACTIVATIONS 2
@@ -71,22 +86,16 @@ extern "C" {
 #define KUXHOVEZA_RECORD_INVOCATION_ACTION 10
 #define KUXHOVEZA_RECORD_INVOCATION_ATTEMPT 11
 #define KUXHOVEZA_RECORD_INVOCATION_INPUT 12
-#define KUXHOVEZA_RECORD_HAS_ERROR 13
-#define KUXHOVEZA_RECORD_ERROR_CODE 14
-#define KUXHOVEZA_RECORD_ERROR_NODE 15
-#define KUXHOVEZA_RECORD_ERROR_DETAIL 16
+
+/* The kept error: its mark, code, node, detail. */
+#define KUXHOVEZA_RECORD_ERROR 13
 #define KUXHOVEZA_RECORD_RESULT 17
 #define KUXHOVEZA_RECORD_STORED 21
-/* Stored signals: sequence, event id, signal, outcome, data. */
 #define KUXHOVEZA_RECORD_SIGNALS 22
-#define KUXHOVEZA_SIGNAL_WIDTH 5
 #define KUXHOVEZA_RECORD_VISITS 342
-/* Streaks: outcome, count. */
 #define KUXHOVEZA_RECORD_STREAKS 406
-#define KUXHOVEZA_STREAK_WIDTH 2
-/* Results of the nodes: visit, outcome, output. */
 #define KUXHOVEZA_RECORD_RESULTS 534
-#define KUXHOVEZA_RESULT_WIDTH 6
+#define KUXHOVEZA_RECORD 918
 
 /* Call. */
 #define KUXHOVEZA_CALL_CEILING_NODES 0
@@ -117,11 +126,10 @@ extern "C" {
 #define KUXHOVEZA_CALL_DELAY 25
 #define KUXHOVEZA_CALL_RESOLUTION 26
 #define KUXHOVEZA_CALL_ANSWERED 27
-/* Mapping answers: kind, value, code, detail, operations. */
 #define KUXHOVEZA_CALL_MAPPINGS 28
-#define KUXHOVEZA_MAPPING_WIDTH 5
+#define KUXHOVEZA_CALL 38
 
-/* Answer. Kind 1: the next record. */
+/* Answer: what it says, its notes and endings, and the record. */
 #define KUXHOVEZA_ANSWER_KIND 0
 #define KUXHOVEZA_ANSWER_MICROSTEPS 1
 #define KUXHOVEZA_ANSWER_ORDER 2
@@ -135,20 +143,39 @@ extern "C" {
 #define KUXHOVEZA_ANSWER_ORDER_PARAMS 10
 #define KUXHOVEZA_ANSWER_NOTED 11
 #define KUXHOVEZA_ANSWER_ENDED 12
-/* Notes: code, node, a, b, c. */
 #define KUXHOVEZA_ANSWER_NOTES 13
-#define KUXHOVEZA_NOTE_WIDTH 5
-/* Endings: sequence, ending. */
 #define KUXHOVEZA_ANSWER_ENDINGS 338
-#define KUXHOVEZA_ENDING_WIDTH 2
 #define KUXHOVEZA_ANSWER_RECORD 468
-/* Kind 2: a want, with the record at that moment. */
+#define KUXHOVEZA_ANSWER 1386
+
+/* A want. */
 #define KUXHOVEZA_ANSWER_WANT_NODE 1
 #define KUXHOVEZA_ANSWER_WANT_FIELD 2
 #define KUXHOVEZA_ANSWER_WANT_FROM 3
-/* Kind 3: a refusal. */
+
+/* A refusal. */
 #define KUXHOVEZA_ANSWER_REFUSAL_NUMBER 1
 #define KUXHOVEZA_ANSWER_REFUSAL_ITEM 2
+
+/* End of the layout. */
+
+/* What stands in a row of WIDTH numbers:
+ *   error           1 or 0 for none, code, node, detail
+ *   output          0 nothing, 1 a handle, 2 an error; the handle or the error's code; the error's node; its detail
+ *   stored signal   sequence, event id, signal, outcome, data
+ *   streak          outcome, count
+ *   result          visit, outcome, output
+ *   mapping answer  kind, value, code, detail, operations
+ *   note            code, node, a, b, c
+ *   ending          sequence, ending */
+
+/* No node, and an absent outcome. */
+#define KUXHOVEZA_NONE 255
+
+/* Kinds of answer: number KUXHOVEZA_ANSWER_KIND of it. */
+#define KUXHOVEZA_NEXT 1
+#define KUXHOVEZA_WANT 2
+#define KUXHOVEZA_REFUSAL 3
 
 /* What kuxhoveza_transition returns. */
 #define KUXHOVEZA_WRITTEN 0
@@ -159,11 +186,22 @@ extern "C" {
 /* One call: writes the answer into the first KUXHOVEZA_ANSWER numbers of the buffer and returns KUXHOVEZA_WRITTEN.
  * Or returns why not, and leaves the buffer as it was: it is shorter than that; the call has a number that its field
  * can't hold; the record has one. The record counts only where number KUXHOVEZA_CALL_HAS_RECORD of the call is
- * 1, and must be lent all the same. The buffer must not overlap the other arrays. */
+ * 1, and must be lent all the same. The buffer must not overlap the other arrays.
+ *
+ * What a field holds: 64 bits for sequences, times and delays; 0 or 1 for a mark; 8 bits for a node, an action, a signal
+ * and an outcome; 16 bits for an error's code; 32 bits for all else. A call's numbers are held to this also where its
+ * kind of event or its count of mapping answers doesn't read them, a record's also behind the count of its stored
+ * signals (docs/NUMBERS.md, field by field).
+ *
+ * Only the record of a KUXHOVEZA_NEXT is one to keep and to lend to the next call. A refusal has none; and the record of a
+ * KUXHOVEZA_WANT is for the evaluation of the wanted value alone, and must never be kept: a later call would take it, and a
+ * signal would be lost or an entry counted twice. A want is answered by the same call, with the same sequence, on the
+ * same record (or none) as before, with the value added to its mapping answers. */
 uint32_t kuxhoveza_transition(const uint32_t sheet[KUXHOVEZA_SHEET], const uint64_t call[KUXHOVEZA_CALL],
                               const uint64_t record[KUXHOVEZA_RECORD], uint64_t *answer, size_t answer_len);
 
-/* The verdict on a sheet alone, under four ceilings: 0, or 256 times the refusal's number and its item. */
+/* The verdict on a sheet alone, under four ceilings: 0 where it is accepted, else 256 times the refusal's number and its
+ * item (a node, an action, or KUXHOVEZA_NONE). */
 uint64_t kuxhoveza_verdict(const uint32_t sheet[KUXHOVEZA_SHEET], uint32_t nodes, uint32_t visits,
                            uint32_t activations, uint32_t attempts);
 

@@ -33,11 +33,17 @@ int main(void)
     call[KUXHOVEZA_CALL_HAS_RECORD] = 1;
     record[KUXHOVEZA_RECORD_VISITS] = UINT64_C(1) << 32;
     is("a visit count of 2^32", transition(KUXHOVEZA_ANSWER), KUXHOVEZA_BAD_RECORD);
+    record[KUXHOVEZA_RECORD_VISITS] = 0;
+    record[KUXHOVEZA_RECORD_POSITION_NODE] = 256;
+    is("a position at node 256", transition(KUXHOVEZA_ANSWER), KUXHOVEZA_BAD_RECORD);
+    call[KUXHOVEZA_CALL_ERROR_CODE] = 65536;
+    is("a code of 65536 in a start", transition(KUXHOVEZA_ANSWER), KUXHOVEZA_BAD_CALL);
+    call[KUXHOVEZA_CALL_ERROR_CODE] = 65535;
     is("the untouched buffer", memcmp(answer, untouched, sizeof answer) == 0, 1);
 
     call[KUXHOVEZA_CALL_HAS_RECORD] = 0;
     is("a start", transition(KUXHOVEZA_ANSWER), KUXHOVEZA_WRITTEN);
-    is("the kind", answer[KUXHOVEZA_ANSWER_KIND], 1);
+    is("the kind", answer[KUXHOVEZA_ANSWER_KIND], KUXHOVEZA_NEXT);
     is("the microsteps", answer[KUXHOVEZA_ANSWER_MICROSTEPS], 1);
     is("the order", answer[KUXHOVEZA_ANSWER_ORDER], 1);
     is("the order's node", answer[KUXHOVEZA_ANSWER_ORDER_NODE], 0);

@@ -10,6 +10,7 @@ use calls::numbers::{self, ANSWER};
 use calls::{Call, State, Workflow, NONE};
 use generator::full::{self, CEILINGS};
 use generator::{directed, joint};
+use kuxhoveza::raw;
 use original::Asked;
 use plain::Decision;
 
@@ -132,11 +133,8 @@ fn cases() -> Vec<(String, Call)> {
 fn show_call(name: &str, call: &Call) {
     let sheet = numbers::sheet(&call.workflow);
     let words: kuxhoveza::Call = numbers::call(call).try_into().unwrap();
-    let record: Option<kuxhoveza::Record> = call
-        .state
-        .as_ref()
-        .map(|state| numbers::record(state).try_into().unwrap());
-    let lent = record.unwrap_or([0; numbers::RECORD]);
+    let record = call.state.as_ref().map(numbers::record);
+    let lent = record.map_or([0; numbers::RECORD], |record| record.try_into().unwrap());
     let asked = Asked::of(call).expect("a sheet with its form");
     let mut out = Decision::new();
     let (mut theirs, mut ours) = ([0; ANSWER], [0; ANSWER]);
@@ -145,7 +143,7 @@ fn show_call(name: &str, call: &Call) {
     assert_eq!(original::answer(call), out.answer(), "{name}");
     assert_eq!(boundary::transition(&sheet, &words, &lent, &mut theirs), 0);
     assert_eq!(numbers::answer(&out.answer()).unwrap(), theirs, "{name}");
-    kuxhoveza::transition(&sheet, &words, record.as_ref(), &mut ours).unwrap();
+    assert_eq!(raw::transition(&sheet, &words, &lent, &mut ours), 0);
     assert_eq!(theirs, ours, "{name}");
 
     let [original, structs, plain, library] = least([
@@ -160,9 +158,7 @@ fn show_call(name: &str, call: &Call) {
             boundary::transition(black_box(&sheet), &words, &lent, black_box(&mut theirs));
         },
         &mut || {
-            let record = record.as_ref();
-            let said = kuxhoveza::transition(black_box(&sheet), &words, record, &mut ours);
-            black_box((said.is_ok(), &ours));
+            raw::transition(black_box(&sheet), &words, &lent, black_box(&mut ours));
         },
     ]);
     println!(

@@ -1,6 +1,7 @@
 //! The plain reading behind the library's boundary: numbers in, numbers out (include/kuxhoveza.h).
 
-use calls::numbers::{self, ANSWER, CALL, RECORD, SHEET};
+use calls::layout::{self, ANSWER, CALL, RECORD, SHEET};
+use calls::numbers;
 use calls::Ceilings;
 use plain::{Decision, Kind};
 
@@ -13,15 +14,15 @@ pub fn transition(
     answer: &mut [u64],
 ) -> u32 {
     let Some(answer) = answer.get_mut(..ANSWER) else {
-        return 1;
+        return layout::SHORT_BUFFER as u32;
     };
     let Some((ceilings, limits, event, mappings)) = numbers::carried_of(call) else {
-        return 2;
+        return layout::BAD_CALL as u32;
     };
-    let state = match call[7] {
+    let state = match call[layout::CALL_HAS_RECORD] {
         0 => None,
         _ => match numbers::state_of(record) {
-            None => return 3,
+            None => return layout::BAD_RECORD as u32,
             state => state,
         },
     };
@@ -37,7 +38,7 @@ pub fn transition(
         &mut out,
     );
     write(answer, &out);
-    0
+    layout::WRITTEN as u32
 }
 
 fn write(answer: &mut [u64], out: &Decision) {

@@ -6,13 +6,14 @@
 pub mod numbers;
 pub mod text;
 
-pub const NONE: u32 = 255;
-pub const NODES: usize = 64;
-pub const ACTIONS: usize = 64;
-pub const ROUTES: usize = 512;
-pub const LIMITS: usize = 512;
-pub const DECLARED: usize = 256;
-pub const STORE: usize = 64;
+/// Lengths, capacities and offsets, as in include/kuxhoveza.h.
+pub mod layout {
+    include!(concat!(env!("OUT_DIR"), "/layout.rs"));
+}
+
+pub use layout::{ACTIONS, DECLARED, LIMITS, MAPPINGS, NODES, ROUTES, STORE};
+
+pub const NONE: u32 = layout::NONE as u32;
 /// 2^63 - 1, the largest counter or time.
 pub const MOST: u64 = i64::MAX as u64;
 
@@ -198,7 +199,7 @@ pub struct Mapping {
 #[derive(Debug, Clone, Copy, PartialEq, Eq, Default)]
 pub struct Mappings {
     pub count: u32,
-    pub answers: [Mapping; 2],
+    pub answers: [Mapping; MAPPINGS],
 }
 
 #[derive(Debug, Clone, Copy, PartialEq, Eq)]

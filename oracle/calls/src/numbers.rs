@@ -1,31 +1,14 @@
 //! The number form of `docs/NUMBERS.md`, both ways, and the sample's lines.
 
+use crate::layout as at;
 use crate::*;
 
-pub const SHEET: usize = 4169;
-pub const RECORD: usize = 918;
-pub const CALL: usize = 38;
-pub const ANSWER: usize = 1386;
+pub use crate::layout::{ANSWER, CALL, RECORD, SHEET};
 
-/// Notes and endings in an answer at most.
-const LIST: usize = STORE + 1;
-
-const KIND: usize = 9;
-const ROUTE: usize = 457;
-const LIMIT: usize = 1993;
-const ACTION: usize = 3529;
-const DECLARE: usize = 3657;
-
-const SIGNAL: usize = 22;
-const VISITS: usize = 342;
-const STREAK: usize = 406;
-const RESULT: usize = 534;
-
-const MAPPING: usize = 28;
-
-const NOTE: usize = 13;
-const ENDING: usize = 338;
-const STATE: usize = 468;
+/// The largest node, action, signal or outcome of a call or a record.
+const NAME: u32 = 255;
+/// The largest code of an error in a call or a record.
+const CODE: u32 = 65535;
 
 /// Kinds of arrays in the sample's lines.
 pub const KIND_SHEET: u64 = 1;
@@ -35,123 +18,119 @@ pub const KIND_ANSWER: u64 = 4;
 
 pub fn sheet(workflow: &Workflow) -> Box<[u32; SHEET]> {
     let mut w = Box::new([0; SHEET]);
-    let head = [
-        workflow.format,
-        workflow.start,
-        workflow.max_visits_per_node,
-        workflow.max_activations,
-        workflow.node_count,
-        workflow.route_count,
-        workflow.limit_count,
-        workflow.action_count,
-        workflow.declared_count,
-    ];
-    w[..KIND].copy_from_slice(&head);
+    w[at::SHEET_FORMAT] = workflow.format;
+    w[at::SHEET_START] = workflow.start;
+    w[at::SHEET_MAX_VISITS_PER_NODE] = workflow.max_visits_per_node;
+    w[at::SHEET_MAX_ACTIVATIONS] = workflow.max_activations;
+    w[at::SHEET_NODE_COUNT] = workflow.node_count;
+    w[at::SHEET_ROUTE_COUNT] = workflow.route_count;
+    w[at::SHEET_LIMIT_COUNT] = workflow.limit_count;
+    w[at::SHEET_ACTION_COUNT] = workflow.action_count;
+    w[at::SHEET_DECLARED_COUNT] = workflow.declared_count;
     for (i, node) in workflow.nodes.iter().enumerate() {
-        let row = [
-            node.kind,
-            node.action,
-            node.has_params,
-            node.signal,
-            node.code,
-            node.detail,
-            node.has_limits,
-        ];
-        put(&mut w[..], KIND, NODES, i, &row);
+        w[at::SHEET_NODE_KIND + i] = node.kind;
+        w[at::SHEET_NODE_ACTION + i] = node.action;
+        w[at::SHEET_NODE_HAS_PARAMS + i] = node.has_params;
+        w[at::SHEET_NODE_SIGNAL + i] = node.signal;
+        w[at::SHEET_NODE_CODE + i] = node.code;
+        w[at::SHEET_NODE_DETAIL + i] = node.detail;
+        w[at::SHEET_NODE_HAS_LIMITS + i] = node.has_limits;
     }
     for (i, x) in workflow.routes.iter().enumerate() {
-        put(&mut w[..], ROUTE, ROUTES, i, &[x.node, x.outcome, x.target]);
+        w[at::SHEET_ROUTE_NODE + i] = x.node;
+        w[at::SHEET_ROUTE_OUTCOME + i] = x.outcome;
+        w[at::SHEET_ROUTE_TARGET + i] = x.target;
     }
     for (i, x) in workflow.limits.iter().enumerate() {
-        put(&mut w[..], LIMIT, LIMITS, i, &[x.node, x.outcome, x.limit]);
+        w[at::SHEET_LIMIT_NODE + i] = x.node;
+        w[at::SHEET_LIMIT_OUTCOME + i] = x.outcome;
+        w[at::SHEET_LIMIT_LIMIT + i] = x.limit;
     }
     for (i, x) in workflow.actions.iter().enumerate() {
-        put(&mut w[..], ACTION, ACTIONS, i, &[x.effect, x.max_attempts]);
+        w[at::SHEET_ACTION_EFFECT + i] = x.effect;
+        w[at::SHEET_ACTION_MAX_ATTEMPTS + i] = x.max_attempts;
     }
     for (i, x) in workflow.declared.iter().enumerate() {
-        put(&mut w[..], DECLARE, DECLARED, i, &[x.action, x.outcome]);
+        w[at::SHEET_DECLARED_ACTION + i] = x.action;
+        w[at::SHEET_DECLARED_OUTCOME + i] = x.outcome;
     }
     w
 }
 
-/// Writes the fields of row `i`, each into its own column.
-fn put(w: &mut [u32], first: usize, column: usize, i: usize, row: &[u32]) {
-    for (field, value) in row.iter().enumerate() {
-        w[first + field * column + i] = *value;
-    }
-}
-
 pub fn workflow_of(w: &[u32; SHEET]) -> Workflow {
-    let at = |first: usize, column: usize, field: usize, i: usize| w[first + field * column + i];
     let mut workflow = Workflow {
-        format: w[0],
-        start: w[1],
-        max_visits_per_node: w[2],
-        max_activations: w[3],
-        node_count: w[4],
-        route_count: w[5],
-        limit_count: w[6],
-        action_count: w[7],
-        declared_count: w[8],
+        format: w[at::SHEET_FORMAT],
+        start: w[at::SHEET_START],
+        max_visits_per_node: w[at::SHEET_MAX_VISITS_PER_NODE],
+        max_activations: w[at::SHEET_MAX_ACTIVATIONS],
+        node_count: w[at::SHEET_NODE_COUNT],
+        route_count: w[at::SHEET_ROUTE_COUNT],
+        limit_count: w[at::SHEET_LIMIT_COUNT],
+        action_count: w[at::SHEET_ACTION_COUNT],
+        declared_count: w[at::SHEET_DECLARED_COUNT],
         ..Workflow::empty()
     };
     for (i, node) in workflow.nodes.iter_mut().enumerate() {
-        let field = |f| at(KIND, NODES, f, i);
         *node = Node {
-            kind: field(0),
-            action: field(1),
-            has_params: field(2),
-            signal: field(3),
-            code: field(4),
-            detail: field(5),
-            has_limits: field(6),
+            kind: w[at::SHEET_NODE_KIND + i],
+            action: w[at::SHEET_NODE_ACTION + i],
+            has_params: w[at::SHEET_NODE_HAS_PARAMS + i],
+            signal: w[at::SHEET_NODE_SIGNAL + i],
+            code: w[at::SHEET_NODE_CODE + i],
+            detail: w[at::SHEET_NODE_DETAIL + i],
+            has_limits: w[at::SHEET_NODE_HAS_LIMITS + i],
         };
     }
     for (i, x) in workflow.routes.iter_mut().enumerate() {
-        let field = |f| at(ROUTE, ROUTES, f, i);
         *x = Route {
-            node: field(0),
-            outcome: field(1),
-            target: field(2),
+            node: w[at::SHEET_ROUTE_NODE + i],
+            outcome: w[at::SHEET_ROUTE_OUTCOME + i],
+            target: w[at::SHEET_ROUTE_TARGET + i],
         };
     }
     for (i, x) in workflow.limits.iter_mut().enumerate() {
-        let field = |f| at(LIMIT, LIMITS, f, i);
         *x = Limit {
-            node: field(0),
-            outcome: field(1),
-            limit: field(2),
+            node: w[at::SHEET_LIMIT_NODE + i],
+            outcome: w[at::SHEET_LIMIT_OUTCOME + i],
+            limit: w[at::SHEET_LIMIT_LIMIT + i],
         };
     }
     for (i, x) in workflow.actions.iter_mut().enumerate() {
-        let field = |f| at(ACTION, ACTIONS, f, i);
         *x = Action {
-            effect: field(0),
-            max_attempts: field(1),
+            effect: w[at::SHEET_ACTION_EFFECT + i],
+            max_attempts: w[at::SHEET_ACTION_MAX_ATTEMPTS + i],
         };
     }
     for (i, x) in workflow.declared.iter_mut().enumerate() {
-        let field = |f| at(DECLARE, DECLARED, f, i);
         *x = Declared {
-            action: field(0),
-            outcome: field(1),
+            action: w[at::SHEET_DECLARED_ACTION + i],
+            outcome: w[at::SHEET_DECLARED_OUTCOME + i],
         };
     }
     workflow
 }
 
-fn error_numbers(error: &ErrorInfo) -> [u64; 3] {
-    [error.code.into(), error.node.into(), error.detail.into()]
+/// Row `i` of those that begin at `first`.
+fn row<const WIDTH: usize>(w: &[u64], first: usize, i: usize) -> [u64; WIDTH] {
+    w[first + WIDTH * i..][..WIDTH].try_into().expect("a row")
 }
 
-fn output_numbers(output: &Output) -> [u64; 4] {
+fn put<const WIDTH: usize>(w: &mut [u64], first: usize, i: usize, row: [u64; WIDTH]) {
+    w[first + WIDTH * i..][..WIDTH].copy_from_slice(&row);
+}
+
+fn error_numbers(error: &Option<ErrorInfo>) -> [u64; at::ERROR_WIDTH] {
+    match error {
+        None => [0; at::ERROR_WIDTH],
+        Some(it) => [1, it.code.into(), it.node.into(), it.detail.into()],
+    }
+}
+
+fn output_numbers(output: &Output) -> [u64; at::OUTPUT_WIDTH] {
     match output {
-        Output::Nothing => [0; 4],
+        Output::Nothing => [0; at::OUTPUT_WIDTH],
         Output::Handle(handle) => [1, u64::from(*handle), 0, 0],
-        Output::Error(error) => {
-            let [code, node, detail] = error_numbers(error);
-            [2, code, node, detail]
-        }
+        Output::Error(it) => [2, it.code.into(), it.node.into(), it.detail.into()],
     }
 }
 
@@ -163,53 +142,58 @@ pub fn record(state: &State) -> Vec<u64> {
 
 /// Writes a record over zeros.
 fn write_record(w: &mut [u64], state: &State) {
-    w[..5].copy_from_slice(&[
-        state.status.into(),
-        state.input.into(),
-        state.activations.into(),
-        state.last_sequence,
-        state.last_accepted_at,
-    ]);
-    w[5] = state.position.node.into();
-    w[6] = state.position.visit.into();
+    w[at::RECORD_STATUS] = state.status.into();
+    w[at::RECORD_INPUT] = state.input.into();
+    w[at::RECORD_ACTIVATIONS] = state.activations.into();
+    w[at::RECORD_LAST_SEQUENCE] = state.last_sequence;
+    w[at::RECORD_LAST_ACCEPTED_AT] = state.last_accepted_at;
+    w[at::RECORD_POSITION_NODE] = state.position.node.into();
+    w[at::RECORD_POSITION_VISIT] = state.position.visit.into();
     let invocation = &state.invocation;
-    w[7..13].copy_from_slice(&[
-        invocation.phase.into(),
-        invocation.node.into(),
-        invocation.visit.into(),
-        invocation.action.into(),
-        invocation.attempt.into(),
-        invocation.input.into(),
-    ]);
-    if let Some(error) = &invocation.error {
-        w[13] = 1;
-        w[14..17].copy_from_slice(&error_numbers(error));
-    }
-    w[17..21].copy_from_slice(&output_numbers(&state.result));
-    w[21] = state.signal_count.into();
+    w[at::RECORD_PHASE] = invocation.phase.into();
+    w[at::RECORD_INVOCATION_NODE] = invocation.node.into();
+    w[at::RECORD_INVOCATION_VISIT] = invocation.visit.into();
+    w[at::RECORD_INVOCATION_ACTION] = invocation.action.into();
+    w[at::RECORD_INVOCATION_ATTEMPT] = invocation.attempt.into();
+    w[at::RECORD_INVOCATION_INPUT] = invocation.input.into();
+    put(w, at::RECORD_ERROR, 0, error_numbers(&invocation.error));
+    put(w, at::RECORD_RESULT, 0, output_numbers(&state.result));
+    w[at::RECORD_STORED] = state.signal_count.into();
     for (i, x) in state.signals.iter().enumerate() {
-        w[SIGNAL + 5 * i..][..5].copy_from_slice(&[
+        let row: [u64; at::SIGNAL_WIDTH] = [
             x.sequence,
             x.event_id.into(),
             x.signal.into(),
             x.outcome.into(),
             x.data.into(),
-        ]);
+        ];
+        put(w, at::RECORD_SIGNALS, i, row);
     }
     for n in 0..NODES {
-        w[VISITS + n] = state.visits[n].into();
-        w[STREAK + 2 * n] = state.streaks[n].outcome.into();
-        w[STREAK + 2 * n + 1] = state.streaks[n].count.into();
+        w[at::RECORD_VISITS + n] = state.visits[n].into();
+        let streak = &state.streaks[n];
+        let row: [u64; at::STREAK_WIDTH] = [streak.outcome.into(), streak.count.into()];
+        put(w, at::RECORD_STREAKS, n, row);
         let result = &state.results[n];
-        let slot = &mut w[RESULT + 6 * n..][..6];
-        slot[0] = result.visit.into();
-        slot[1] = result.outcome.into();
-        slot[2..].copy_from_slice(&output_numbers(&result.output));
+        let [kind, first, second, third] = output_numbers(&result.output);
+        let (visit, outcome) = (result.visit.into(), result.outcome.into());
+        let row: [u64; at::RESULT_WIDTH] = [visit, outcome, kind, first, second, third];
+        put(w, at::RECORD_RESULTS, n, row);
     }
 }
 
 fn small(number: u64) -> Option<u32> {
     u32::try_from(number).ok()
+}
+
+/// A node, an action, a signal or an outcome.
+fn name(number: u64) -> Option<u32> {
+    small(number).filter(|number| *number <= NAME)
+}
+
+/// An error's code.
+fn code(number: u64) -> Option<u32> {
+    small(number).filter(|number| *number <= CODE)
 }
 
 fn flag(number: u64) -> Option<bool> {
@@ -220,19 +204,28 @@ fn flag(number: u64) -> Option<bool> {
     }
 }
 
-fn error_of(w: &[u64]) -> Option<ErrorInfo> {
+fn error_of(numbers: [u64; 3]) -> Option<ErrorInfo> {
+    let [number, node, detail] = numbers;
     Some(ErrorInfo {
-        code: small(w[0])?,
-        node: small(w[1])?,
-        detail: small(w[2])?,
+        code: code(number)?,
+        node: name(node)?,
+        detail: small(detail)?,
     })
 }
 
-fn output_of(w: &[u64]) -> Option<Output> {
-    match w[..4] {
+fn kept_of(row: [u64; at::ERROR_WIDTH]) -> Option<Option<ErrorInfo>> {
+    match row {
+        [0, 0, 0, 0] => Some(None),
+        [1, code, node, detail] => Some(Some(error_of([code, node, detail])?)),
+        _ => None,
+    }
+}
+
+fn output_of(row: [u64; at::OUTPUT_WIDTH]) -> Option<Output> {
+    match row {
         [0, 0, 0, 0] => Some(Output::Nothing),
         [1, handle, 0, 0] => Some(Output::Handle(small(handle)?)),
-        [2, ..] => Some(Output::Error(error_of(&w[1..])?)),
+        [2, code, node, detail] => Some(Output::Error(error_of([code, node, detail])?)),
         _ => None,
     }
 }
@@ -242,51 +235,49 @@ pub fn state_of(w: &[u64]) -> Option<State> {
     if w.len() != RECORD {
         return None;
     }
-    let mut state = State::fresh(small(w[1])?);
-    state.status = small(w[0])?;
-    state.activations = small(w[2])?;
-    state.last_sequence = w[3];
-    state.last_accepted_at = w[4];
+    let mut state = State::fresh(small(w[at::RECORD_INPUT])?);
+    state.status = small(w[at::RECORD_STATUS])?;
+    state.activations = small(w[at::RECORD_ACTIVATIONS])?;
+    state.last_sequence = w[at::RECORD_LAST_SEQUENCE];
+    state.last_accepted_at = w[at::RECORD_LAST_ACCEPTED_AT];
     state.position = Position {
-        node: small(w[5])?,
-        visit: small(w[6])?,
+        node: name(w[at::RECORD_POSITION_NODE])?,
+        visit: small(w[at::RECORD_POSITION_VISIT])?,
     };
     state.invocation = InvocationState {
-        phase: small(w[7])?,
-        node: small(w[8])?,
-        visit: small(w[9])?,
-        action: small(w[10])?,
-        attempt: small(w[11])?,
-        input: small(w[12])?,
-        error: match w[13..17] {
-            [0, 0, 0, 0] => None,
-            [1, ..] => Some(error_of(&w[14..])?),
-            _ => return None,
-        },
+        phase: small(w[at::RECORD_PHASE])?,
+        node: name(w[at::RECORD_INVOCATION_NODE])?,
+        visit: small(w[at::RECORD_INVOCATION_VISIT])?,
+        action: name(w[at::RECORD_INVOCATION_ACTION])?,
+        attempt: small(w[at::RECORD_INVOCATION_ATTEMPT])?,
+        input: small(w[at::RECORD_INVOCATION_INPUT])?,
+        error: kept_of(row(w, at::RECORD_ERROR, 0))?,
     };
-    state.result = output_of(&w[17..])?;
-    state.signal_count = small(w[21])?;
+    state.result = output_of(row(w, at::RECORD_RESULT, 0))?;
+    state.signal_count = small(w[at::RECORD_STORED])?;
     for (i, x) in state.signals.iter_mut().enumerate() {
-        let slot = &w[SIGNAL + 5 * i..];
+        let [sequence, event_id, signal, outcome, data]: [u64; at::SIGNAL_WIDTH] =
+            row(w, at::RECORD_SIGNALS, i);
         *x = BufferedSignal {
-            sequence: slot[0],
-            event_id: small(slot[1])?,
-            signal: small(slot[2])?,
-            outcome: small(slot[3])?,
-            data: small(slot[4])?,
+            sequence,
+            event_id: small(event_id)?,
+            signal: name(signal)?,
+            outcome: name(outcome)?,
+            data: small(data)?,
         };
     }
     for n in 0..NODES {
-        state.visits[n] = small(w[VISITS + n])?;
+        state.visits[n] = small(w[at::RECORD_VISITS + n])?;
+        let [outcome, count]: [u64; at::STREAK_WIDTH] = row(w, at::RECORD_STREAKS, n);
         state.streaks[n] = Streak {
-            outcome: small(w[STREAK + 2 * n])?,
-            count: small(w[STREAK + 2 * n + 1])?,
+            outcome: name(outcome)?,
+            count: small(count)?,
         };
-        let slot = &w[RESULT + 6 * n..];
+        let [visit, outcome, output @ ..]: [u64; at::RESULT_WIDTH] = row(w, at::RECORD_RESULTS, n);
         state.results[n] = NodeResult {
-            visit: small(slot[0])?,
-            outcome: small(slot[1])?,
-            output: output_of(&slot[2..])?,
+            visit: small(visit)?,
+            outcome: name(outcome)?,
+            output: output_of(output)?,
         };
     }
     Some(state)
@@ -294,45 +285,45 @@ pub fn state_of(w: &[u64]) -> Option<State> {
 
 /// The call without its sheet and its record.
 pub fn call(call: &Call) -> Vec<u64> {
+    let mut w = vec![0; CALL];
+    w[at::CALL_CEILING_NODES] = call.ceilings.nodes.into();
+    w[at::CALL_CEILING_VISITS] = call.ceilings.visits.into();
+    w[at::CALL_CEILING_ACTIVATIONS] = call.ceilings.activations.into();
+    w[at::CALL_CEILING_ATTEMPTS] = call.ceilings.attempts.into();
+    w[at::CALL_LIMIT_MICROSTEPS] = call.limits.microsteps.into();
+    w[at::CALL_LIMIT_COMMANDS] = call.limits.commands.into();
+    w[at::CALL_LIMIT_OPERATIONS] = call.limits.operations.into();
+    w[at::CALL_HAS_RECORD] = call.state.is_some().into();
     let event = &call.event;
-    let mut w = vec![
-        call.ceilings.nodes.into(),
-        call.ceilings.visits.into(),
-        call.ceilings.activations.into(),
-        call.ceilings.attempts.into(),
-        call.limits.microsteps.into(),
-        call.limits.commands.into(),
-        call.limits.operations.into(),
-        call.state.is_some().into(),
-        event.sequence,
-        event.accepted_at,
-        event.event_id.into(),
-        event.kind.into(),
-        event.input.into(),
-        event.signal.into(),
-        event.outcome.into(),
-        event.data.into(),
-        event.node.into(),
-        event.visit.into(),
-        event.attempt.into(),
-        event.status.into(),
-        event.output.into(),
-        event.has_error.into(),
-        event.code.into(),
-        event.detail.into(),
-        event.retryable.into(),
-        event.delay,
-        event.resolution.into(),
-        call.mappings.count.into(),
-    ];
-    for answer in &call.mappings.answers {
-        w.extend([
-            u64::from(answer.kind),
+    w[at::CALL_SEQUENCE] = event.sequence;
+    w[at::CALL_ACCEPTED_AT] = event.accepted_at;
+    w[at::CALL_EVENT_ID] = event.event_id.into();
+    w[at::CALL_KIND] = event.kind.into();
+    w[at::CALL_INPUT] = event.input.into();
+    w[at::CALL_SIGNAL] = event.signal.into();
+    w[at::CALL_OUTCOME] = event.outcome.into();
+    w[at::CALL_DATA] = event.data.into();
+    w[at::CALL_NODE] = event.node.into();
+    w[at::CALL_VISIT] = event.visit.into();
+    w[at::CALL_ATTEMPT] = event.attempt.into();
+    w[at::CALL_STATUS] = event.status.into();
+    w[at::CALL_OUTPUT] = event.output.into();
+    w[at::CALL_HAS_ERROR] = event.has_error.into();
+    w[at::CALL_ERROR_CODE] = event.code.into();
+    w[at::CALL_ERROR_DETAIL] = event.detail.into();
+    w[at::CALL_RETRYABLE] = event.retryable.into();
+    w[at::CALL_DELAY] = event.delay;
+    w[at::CALL_RESOLUTION] = event.resolution.into();
+    w[at::CALL_ANSWERED] = call.mappings.count.into();
+    for (i, answer) in call.mappings.answers.iter().enumerate() {
+        let row: [u64; at::MAPPING_WIDTH] = [
+            answer.kind.into(),
             answer.value.into(),
             answer.code.into(),
             answer.detail.into(),
             answer.operations.into(),
-        ]);
+        ];
+        put(&mut w, at::CALL_MAPPINGS, i, row);
     }
     w
 }
@@ -342,51 +333,52 @@ pub type Carried = (Ceilings, Limits, Event, Mappings);
 
 /// None where a number is more than its field can hold.
 pub fn carried_of(w: &[u64; CALL]) -> Option<Carried> {
-    flag(w[7])?;
+    flag(w[at::CALL_HAS_RECORD])?;
     let ceilings = Ceilings {
-        nodes: small(w[0])?,
-        visits: small(w[1])?,
-        activations: small(w[2])?,
-        attempts: small(w[3])?,
+        nodes: small(w[at::CALL_CEILING_NODES])?,
+        visits: small(w[at::CALL_CEILING_VISITS])?,
+        activations: small(w[at::CALL_CEILING_ACTIVATIONS])?,
+        attempts: small(w[at::CALL_CEILING_ATTEMPTS])?,
     };
     let limits = Limits {
-        microsteps: small(w[4])?,
-        commands: small(w[5])?,
-        operations: small(w[6])?,
+        microsteps: small(w[at::CALL_LIMIT_MICROSTEPS])?,
+        commands: small(w[at::CALL_LIMIT_COMMANDS])?,
+        operations: small(w[at::CALL_LIMIT_OPERATIONS])?,
     };
     let event = Event {
-        sequence: w[8],
-        accepted_at: w[9],
-        event_id: small(w[10])?,
-        kind: small(w[11])?,
-        input: small(w[12])?,
-        signal: small(w[13])?,
-        outcome: small(w[14])?,
-        data: small(w[15])?,
-        node: small(w[16])?,
-        visit: small(w[17])?,
-        attempt: small(w[18])?,
-        status: small(w[19])?,
-        output: small(w[20])?,
-        has_error: flag(w[21])?,
-        code: small(w[22])?,
-        detail: small(w[23])?,
-        retryable: flag(w[24])?,
-        delay: w[25],
-        resolution: small(w[26])?,
+        sequence: w[at::CALL_SEQUENCE],
+        accepted_at: w[at::CALL_ACCEPTED_AT],
+        event_id: small(w[at::CALL_EVENT_ID])?,
+        kind: small(w[at::CALL_KIND])?,
+        input: small(w[at::CALL_INPUT])?,
+        signal: name(w[at::CALL_SIGNAL])?,
+        outcome: name(w[at::CALL_OUTCOME])?,
+        data: small(w[at::CALL_DATA])?,
+        node: name(w[at::CALL_NODE])?,
+        visit: small(w[at::CALL_VISIT])?,
+        attempt: small(w[at::CALL_ATTEMPT])?,
+        status: small(w[at::CALL_STATUS])?,
+        output: small(w[at::CALL_OUTPUT])?,
+        has_error: flag(w[at::CALL_HAS_ERROR])?,
+        code: code(w[at::CALL_ERROR_CODE])?,
+        detail: small(w[at::CALL_ERROR_DETAIL])?,
+        retryable: flag(w[at::CALL_RETRYABLE])?,
+        delay: w[at::CALL_DELAY],
+        resolution: small(w[at::CALL_RESOLUTION])?,
     };
     let mut mappings = Mappings {
-        count: small(w[27])?,
+        count: small(w[at::CALL_ANSWERED])?,
         ..Mappings::default()
     };
     for (i, answer) in mappings.answers.iter_mut().enumerate() {
-        let slot = &w[MAPPING + 5 * i..];
+        let [kind, value, number, detail, operations]: [u64; at::MAPPING_WIDTH] =
+            row(w, at::CALL_MAPPINGS, i);
         *answer = Mapping {
-            kind: small(slot[0])?,
-            value: small(slot[1])?,
-            code: small(slot[2])?,
-            detail: small(slot[3])?,
-            operations: small(slot[4])?,
+            kind: small(kind)?,
+            value: small(value)?,
+            code: code(number)?,
+            detail: small(detail)?,
+            operations: small(operations)?,
         };
     }
     Some((ceilings, limits, event, mappings))
@@ -396,7 +388,7 @@ pub fn carried_of(w: &[u64; CALL]) -> Option<Carried> {
 pub fn call_of(workflow: Workflow, w: &[u64], state: Option<State>) -> Option<Call> {
     let w: &[u64; CALL] = w.try_into().ok()?;
     let (ceilings, limits, event, mappings) = carried_of(w)?;
-    (w[7] == u64::from(state.is_some())).then_some(Call {
+    (w[at::CALL_HAS_RECORD] == u64::from(state.is_some())).then_some(Call {
         ceilings,
         limits,
         workflow,
@@ -415,33 +407,38 @@ pub fn write_next(
     endings: &[Ending],
     microsteps: u32,
 ) {
-    w[0] = 1;
-    w[1] = microsteps.into();
+    w[at::ANSWER_KIND] = at::NEXT as u64;
+    w[at::ANSWER_MICROSTEPS] = microsteps.into();
     if let Some(order) = order {
-        w[2..11].copy_from_slice(&order_numbers(order));
+        put(w, at::ANSWER_ORDER, 0, order_numbers(order));
     }
-    w[11] = notes.len() as u64;
-    w[12] = endings.len() as u64;
+    w[at::ANSWER_NOTED] = notes.len() as u64;
+    w[at::ANSWER_ENDED] = endings.len() as u64;
     for (i, note) in notes.iter().enumerate() {
-        let row = [note.code, note.node, note.a, note.b, note.c];
-        w[NOTE + 5 * i..][..5].copy_from_slice(&row.map(u64::from));
+        let row: [u32; at::NOTE_WIDTH] = [note.code, note.node, note.a, note.b, note.c];
+        put(w, at::ANSWER_NOTES, i, row.map(u64::from));
     }
     for (i, ending) in endings.iter().enumerate() {
-        w[ENDING + 2 * i] = ending.sequence;
-        w[ENDING + 2 * i + 1] = ending.ending.into();
+        let row: [u64; at::ENDING_WIDTH] = [ending.sequence, ending.ending.into()];
+        put(w, at::ANSWER_ENDINGS, i, row);
     }
-    write_record(&mut w[STATE..], state);
+    write_record(&mut w[at::ANSWER_RECORD..], state);
 }
 
 /// Writes a want, over zeros.
 pub fn write_want(w: &mut [u64], node: u32, field: u32, from: u32, state: &State) {
-    w[..4].copy_from_slice(&[2, node.into(), field.into(), from.into()]);
-    write_record(&mut w[STATE..], state);
+    w[at::ANSWER_KIND] = at::WANT as u64;
+    w[at::ANSWER_WANT_NODE] = node.into();
+    w[at::ANSWER_WANT_FIELD] = field.into();
+    w[at::ANSWER_WANT_FROM] = from.into();
+    write_record(&mut w[at::ANSWER_RECORD..], state);
 }
 
 /// Writes a refusal, over zeros.
 pub fn write_refusal(w: &mut [u64], number: u32, item: u32) {
-    w[..3].copy_from_slice(&[3, number.into(), item.into()]);
+    w[at::ANSWER_KIND] = at::REFUSAL as u64;
+    w[at::ANSWER_REFUSAL_NUMBER] = number.into();
+    w[at::ANSWER_REFUSAL_ITEM] = item.into();
 }
 
 /// The numbers of an answer with at most one order, 65 notes and 65 endings; None for others.
@@ -455,7 +452,7 @@ pub fn answer(answer: &Answer) -> Option<Vec<u64>> {
             endings,
             microsteps,
         } => {
-            if orders.len() > 1 || notes.len() > LIST || endings.len() > LIST {
+            if orders.len() > 1 || notes.len() > at::NOTES || endings.len() > at::ENDINGS {
                 return None;
             }
             write_next(&mut w, state, orders.first(), notes, endings, *microsteps);
@@ -471,7 +468,10 @@ pub fn answer(answer: &Answer) -> Option<Vec<u64>> {
     Some(w)
 }
 
-fn order_numbers(order: &Order) -> [u64; 9] {
+/// How many numbers an order is: what it is, and its fields.
+const ORDER_WIDTH: usize = at::ANSWER_NOTED - at::ANSWER_ORDER;
+
+fn order_numbers(order: &Order) -> [u64; ORDER_WIDTH] {
     match *order {
         Order::Schedule {
             node,
@@ -511,8 +511,8 @@ fn order_numbers(order: &Order) -> [u64; 9] {
     }
 }
 
-fn orders_of(w: &[u64]) -> Option<Vec<Order>> {
-    match w[..9] {
+fn orders_of(row: [u64; ORDER_WIDTH]) -> Option<Vec<Order>> {
+    match row {
         [0, 0, 0, 0, 0, 0, 0, 0, 0] => Some(Vec::new()),
         [1, node, visit, action, attempt, not_before, input, has, params] => {
             let params = match (flag(has)?, small(params)?) {
@@ -545,47 +545,49 @@ pub fn answer_of(w: &[u64]) -> Option<Answer> {
     if w.len() != ANSWER {
         return None;
     }
-    match w[0] {
-        1 => {
-            let (count, ended) = (w[11] as usize, w[12] as usize);
-            if count > LIST || ended > LIST {
+    match w[at::ANSWER_KIND] as usize {
+        at::NEXT => {
+            let noted = w[at::ANSWER_NOTED] as usize;
+            let ended = w[at::ANSWER_ENDED] as usize;
+            if noted > at::NOTES || ended > at::ENDINGS {
                 return None;
             }
             let mut notes = Vec::new();
-            for i in 0..count {
-                let row = &w[NOTE + 5 * i..];
+            for i in 0..noted {
+                let [code, node, a, b, c]: [u64; at::NOTE_WIDTH] = row(w, at::ANSWER_NOTES, i);
                 notes.push(Note {
-                    code: small(row[0])?,
-                    node: small(row[1])?,
-                    a: small(row[2])?,
-                    b: small(row[3])?,
-                    c: small(row[4])?,
+                    code: small(code)?,
+                    node: small(node)?,
+                    a: small(a)?,
+                    b: small(b)?,
+                    c: small(c)?,
                 });
             }
             let mut endings = Vec::new();
             for i in 0..ended {
+                let [sequence, ending]: [u64; at::ENDING_WIDTH] = row(w, at::ANSWER_ENDINGS, i);
                 endings.push(Ending {
-                    sequence: w[ENDING + 2 * i],
-                    ending: small(w[ENDING + 2 * i + 1])?,
+                    sequence,
+                    ending: small(ending)?,
                 });
             }
             Some(Answer::Next {
-                state: Box::new(state_of(&w[STATE..])?),
-                orders: orders_of(&w[2..])?,
+                state: Box::new(state_of(&w[at::ANSWER_RECORD..])?),
+                orders: orders_of(row(w, at::ANSWER_ORDER, 0))?,
                 notes,
                 endings,
-                microsteps: small(w[1])?,
+                microsteps: small(w[at::ANSWER_MICROSTEPS])?,
             })
         }
-        2 => Some(Answer::Wants {
-            node: small(w[1])?,
-            field: small(w[2])?,
-            from: small(w[3])?,
-            state: Box::new(state_of(&w[STATE..])?),
+        at::WANT => Some(Answer::Wants {
+            node: small(w[at::ANSWER_WANT_NODE])?,
+            field: small(w[at::ANSWER_WANT_FIELD])?,
+            from: small(w[at::ANSWER_WANT_FROM])?,
+            state: Box::new(state_of(&w[at::ANSWER_RECORD..])?),
         }),
-        3 => Some(Answer::Refused {
-            number: small(w[1])?,
-            item: small(w[2])?,
+        at::REFUSAL => Some(Answer::Refused {
+            number: small(w[at::ANSWER_REFUSAL_NUMBER])?,
+            item: small(w[at::ANSWER_REFUSAL_ITEM])?,
         }),
         _ => None,
     }
@@ -721,10 +723,13 @@ mod tests {
             self.0 += 1;
             self.0
         }
+        fn name(&mut self) -> u32 {
+            self.next() % (NAME + 1)
+        }
         fn error(&mut self) -> ErrorInfo {
             ErrorInfo {
                 code: self.next(),
-                node: self.next(),
+                node: self.name(),
                 detail: self.next(),
             }
         }
@@ -746,14 +751,14 @@ mod tests {
         state.last_sequence = u64::MAX;
         state.last_accepted_at = 1 << 63;
         state.position = Position {
-            node: c.next(),
+            node: c.name(),
             visit: c.next(),
         };
         state.invocation = InvocationState {
             phase: c.next(),
-            node: c.next(),
+            node: c.name(),
             visit: c.next(),
-            action: c.next(),
+            action: c.name(),
             attempt: c.next(),
             input: c.next(),
             error: Some(c.error()),
@@ -764,20 +769,20 @@ mod tests {
             *signal = BufferedSignal {
                 sequence: u64::from(c.next()) << 32,
                 event_id: c.next(),
-                signal: c.next(),
-                outcome: c.next(),
+                signal: c.name(),
+                outcome: c.name(),
                 data: c.next(),
             };
         }
         for n in 0..NODES {
             state.visits[n] = c.next();
             state.streaks[n] = Streak {
-                outcome: c.next(),
+                outcome: c.name(),
                 count: c.next(),
             };
             state.results[n] = NodeResult {
                 visit: c.next(),
-                outcome: c.next(),
+                outcome: c.name(),
                 output: match n % 3 {
                     0 => Output::Nothing,
                     1 => Output::Handle(c.next()),
@@ -790,37 +795,17 @@ mod tests {
 
     fn numbered_call() -> Call {
         let mut numbers: Vec<u64> = (1..=CALL as u64).collect();
-        numbers[7] = 1;
-        numbers[21] = 0;
-        numbers[24] = 1;
+        numbers[at::CALL_HAS_RECORD] = 1;
+        numbers[at::CALL_HAS_ERROR] = 0;
+        numbers[at::CALL_RETRYABLE] = 1;
         call_of(numbered_workflow(), &numbers, Some(numbered_state())).unwrap()
     }
 
     #[test]
-    fn sheet_offsets() {
-        let workflow = numbered_workflow();
-        let words = sheet(&workflow);
-        for (i, word) in words.iter().enumerate() {
-            assert_eq!(*word, i as u32 + 1);
-        }
-        assert_eq!(workflow.declared_count, 8 + 1);
-        assert_eq!(workflow.nodes[0].kind, 9 + 1);
-        assert_eq!(workflow.nodes[1].action, 73 + 1 + 1);
-        assert_eq!(workflow.nodes[0].has_params, 137 + 1);
-        assert_eq!(workflow.nodes[0].signal, 201 + 1);
-        assert_eq!(workflow.nodes[0].code, 265 + 1);
-        assert_eq!(workflow.nodes[0].detail, 329 + 1);
-        assert_eq!(workflow.nodes[63].has_limits, 393 + 63 + 1);
-        assert_eq!(workflow.routes[0].node, 457 + 1);
-        assert_eq!(workflow.routes[0].outcome, 969 + 1);
-        assert_eq!(workflow.routes[511].target, 1481 + 511 + 1);
-        assert_eq!(workflow.limits[0].node, 1993 + 1);
-        assert_eq!(workflow.limits[0].outcome, 2505 + 1);
-        assert_eq!(workflow.limits[511].limit, 3017 + 511 + 1);
-        assert_eq!(workflow.actions[0].effect, 3529 + 1);
-        assert_eq!(workflow.actions[63].max_attempts, 3593 + 63 + 1);
-        assert_eq!(workflow.declared[0].action, 3657 + 1);
-        assert_eq!(workflow.declared[255].outcome, 3913 + 255 + 1);
+    fn sheet_both_ways() {
+        let words = sheet(&numbered_workflow());
+        let counted: Vec<u32> = (1..=SHEET as u32).collect();
+        assert_eq!(words[..], counted);
     }
 
     #[test]
@@ -828,21 +813,19 @@ mod tests {
         let state = numbered_state();
         let numbers = record(&state);
         assert_eq!(numbers.len(), RECORD);
-        assert_eq!(numbers[21], u64::from(state.signal_count));
-        assert_eq!(numbers[22 + 5 * 63], state.signals[63].sequence);
-        assert_eq!(numbers[342 + 63], u64::from(state.visits[63]));
-        assert_eq!(
-            numbers[406 + 2 * 63 + 1],
-            u64::from(state.streaks[63].count)
-        );
-        assert_eq!(numbers[534 + 6 * 63], u64::from(state.results[63].visit));
         assert_eq!(state_of(&numbers), Some(state));
         assert_eq!(state_of(&record(&State::fresh(7))), Some(State::fresh(7)));
     }
 
     #[test]
     fn record_that_is_none() {
-        for (offset, number) in [(0, 1 << 32), (14, 1), (18, 1), (17, 3), (13, 2)] {
+        for (offset, number) in [
+            (at::RECORD_STATUS, 1 << 32),
+            (at::RECORD_ERROR, 2),
+            (at::RECORD_ERROR + 1, 1),
+            (at::RECORD_RESULT, 3),
+            (at::RECORD_RESULT + 1, 1),
+        ] {
             let mut numbers = record(&State::fresh(7));
             numbers[offset] = number;
             assert_eq!(state_of(&numbers), None, "{offset}");
@@ -854,14 +837,10 @@ mod tests {
         let call = numbered_call();
         let numbers = self::call(&call);
         assert_eq!(numbers.len(), CALL);
-        for (i, number) in numbers.iter().enumerate() {
-            if ![7, 21, 24].contains(&i) {
-                assert_eq!(*number, i as u64 + 1);
-            }
-        }
-        assert_eq!(call.event.kind, 12);
-        assert_eq!(call.event.delay, 26);
-        assert_eq!(call.mappings.answers[1].operations, 38);
+        assert_eq!(
+            call_of(call.workflow.clone(), &numbers, call.state.clone()),
+            Some(call)
+        );
     }
 
     fn answers() -> Vec<Answer> {
@@ -900,7 +879,7 @@ mod tests {
             microsteps: 130,
         };
         vec![
-            next(vec![], 65),
+            next(vec![], at::NOTES),
             next(vec![schedule(None)], 1),
             next(vec![schedule(Some(0))], 0),
             next(vec![retry], 0),
@@ -925,9 +904,14 @@ mod tests {
             assert_eq!(answer_of(&numbers), Some(answer));
         }
         let numbers = self::answer(&answers()[0]).unwrap();
-        assert_eq!(numbers[13 + 5 * 64..][..5], [1, 2, 3, 4, 5]);
-        assert_eq!(numbers[338 + 2 * 64..][..2], [1 << 62, 4]);
-        assert_eq!(numbers[468], u64::from(numbered_state().status));
+        assert_eq!(
+            row(&numbers, at::ANSWER_NOTES, at::NOTES - 1),
+            [1, 2, 3, 4, 5]
+        );
+        assert_eq!(
+            row(&numbers, at::ANSWER_ENDINGS, at::ENDINGS - 1),
+            [1 << 62, 4]
+        );
     }
 
     #[test]

@@ -5,7 +5,7 @@ use calls::{
     NODES, NONE,
 };
 
-use crate::records::{self, CODES, NAMES};
+use crate::records::{self, any_code, any_name, CODES, NAMES};
 use crate::rng::{Rng, EDGES, LONG_EDGES};
 use crate::{directed, full, sheets};
 
@@ -373,7 +373,7 @@ fn name(rng: &mut Rng, state: &State, event: &mut Event) {
     event.visit = invocation.visit;
     event.attempt = invocation.attempt;
     match rng.below(25) {
-        0 => event.node = rng.pick(&NAMES),
+        0 => event.node = any_name(rng),
         1 => event.visit = event.visit.wrapping_add(rng.pick(&[1, u32::MAX])),
         2 => event.visit = rng.pick(&EDGES),
         3 => event.attempt = event.attempt.wrapping_add(rng.pick(&[1, u32::MAX])),
@@ -399,10 +399,10 @@ fn resolved(rng: &mut Rng, workflow: &Workflow, state: &State, event: &mut Event
     event.outcome = declared(rng, workflow, state.invocation.action, 6);
 }
 
-/// What refusals 21 to 24 speak of, and boundary values.
+/// What refusals 21 to 24 speak of, boundary values, and numbers that their fields can't hold.
 fn damage_event(rng: &mut Rng, call: &mut Call) {
     let event = &mut call.event;
-    match rng.below(10) {
+    match rng.below(12) {
         0 => event.sequence = rng.pick(&LONG_EDGES),
         1 => event.accepted_at = rng.pick(&LONG_EDGES),
         2 => event.kind = rng.pick(&[0, 1, 2, 3, 4, 5, 6, 255, u32::MAX]),
@@ -412,6 +412,15 @@ fn damage_event(rng: &mut Rng, call: &mut Call) {
         6 => call.mappings.answers[rng.below(2)].kind = rng.pick(&[0, 4, 255, u32::MAX]),
         7 => call.state = None,
         8 => event.kind = 1,
+        9 => match rng.below(3) {
+            0 => event.signal = any_name(rng),
+            1 => event.outcome = any_name(rng),
+            _ => event.node = any_name(rng),
+        },
+        10 => match rng.below(2) {
+            0 => event.code = any_code(rng),
+            _ => call.mappings.answers[rng.below(2)].code = any_code(rng),
+        },
         _ => {
             event.kind = 3 + rng.small(2);
             event.status = rng.pick(&[0, 1, 4, 5]);
@@ -419,6 +428,6 @@ fn damage_event(rng: &mut Rng, call: &mut Call) {
         }
     }
     if call.event.kind == 3 && rng.percent(20) {
-        call.event.outcome = rng.pick(&NAMES);
+        call.event.outcome = any_name(rng);
     }
 }

@@ -7,10 +7,26 @@ use calls::{
 
 use crate::rng::{Rng, EDGES, LONG_EDGES};
 
-/// Boundary values of a name, the last two above what a name can be.
-pub const NAMES: [u32; 14] = [0, 1, 2, 3, 4, 5, 6, 62, 63, 64, 254, 255, 256, u32::MAX];
-/// Boundary values of an error's code, the last one above what a code can be.
-pub const CODES: [u32; 9] = [0, 1, 2, 5, 77, 255, 256, 65535, 65536];
+/// Boundary values of a name.
+pub const NAMES: [u32; 12] = [0, 1, 2, 3, 4, 5, 6, 62, 63, 64, 254, 255];
+/// Boundary values of an error's code.
+pub const CODES: [u32; 8] = [0, 1, 2, 5, 77, 255, 256, 65535];
+
+/// A name; at times one above what a name can be.
+pub fn any_name(rng: &mut Rng) -> u32 {
+    match rng.one_in(8) {
+        true => rng.pick(&[256, 257, 65536, u32::MAX]),
+        false => rng.pick(&NAMES),
+    }
+}
+
+/// An error's code; at times one above what a code can be.
+pub fn any_code(rng: &mut Rng) -> u32 {
+    match rng.one_in(8) {
+        true => rng.pick(&[65536, 65537, u32::MAX]),
+        false => rng.pick(&CODES),
+    }
+}
 
 pub fn error(rng: &mut Rng) -> ErrorInfo {
     ErrorInfo {
@@ -20,7 +36,16 @@ pub fn error(rng: &mut Rng) -> ErrorInfo {
     }
 }
 
-fn output(rng: &mut Rng) -> Output {
+/// The same, also with a code and a node that it can't hold.
+fn any_error(rng: &mut Rng) -> ErrorInfo {
+    ErrorInfo {
+        code: any_code(rng),
+        node: any_name(rng),
+        ..error(rng)
+    }
+}
+
+fn output(rng: &mut Rng, error: fn(&mut Rng) -> ErrorInfo) -> Output {
     match rng.percent(70) {
         true => Output::Handle(rng.pick(&EDGES)),
         false => Output::Error(error(rng)),
@@ -139,7 +164,7 @@ pub fn edit(rng: &mut Rng, workflow: &Workflow, state: &mut State) {
             state.results[rng.small(nodes) as usize] = NodeResult {
                 visit: rng.pick(&[0, 1, 2, u32::MAX]),
                 outcome: rng.pick(&NAMES),
-                output: output(rng),
+                output: output(rng, error),
             };
         }
         _ if state.invocation.phase != 0 => repark(rng, workflow, state),
@@ -168,7 +193,7 @@ fn repark(rng: &mut Rng, workflow: &Workflow, state: &mut State) {
     }
 }
 
-/// Damages one thing. Not everything here breaks the run check.
+/// Damages one thing. Not everything here breaks the run check; some of it no record of the boundary holds.
 pub fn damage(rng: &mut Rng, workflow: &Workflow, state: &mut State) {
     match rng.below(10) {
         0 => {
@@ -183,7 +208,7 @@ pub fn damage(rng: &mut Rng, workflow: &Workflow, state: &mut State) {
             state.result = match rng.below(3) {
                 0 => Output::Nothing,
                 1 => Output::Handle(rng.pick(&EDGES)),
-                _ => Output::Error(error(rng)),
+                _ => Output::Error(any_error(rng)),
             }
         }
         5 => damage_store(rng, workflow, state),
@@ -201,7 +226,7 @@ pub fn damage(rng: &mut Rng, workflow: &Workflow, state: &mut State) {
             _ => {
                 state.status = 3;
                 state.invocation.phase = 3;
-                state.invocation.error = rng.percent(70).then(|| error(rng));
+                state.invocation.error = rng.percent(70).then(|| any_error(rng));
             }
         },
     }
@@ -209,7 +234,7 @@ pub fn damage(rng: &mut Rng, workflow: &Workflow, state: &mut State) {
 
 fn damage_position(rng: &mut Rng, state: &mut State) {
     match rng.percent(50) {
-        true => state.position.node = rng.pick(&NAMES),
+        true => state.position.node = any_name(rng),
         false => {
             let visit = state.position.visit;
             state.position.visit =
@@ -223,7 +248,7 @@ fn damage_position(rng: &mut Rng, state: &mut State) {
 }
 
 fn damage_invocation(rng: &mut Rng, state: &mut State) {
-    let kept = error(rng);
+    let kept = any_error(rng);
     let invocation = &mut state.invocation;
     match rng.below(7) {
         0 => {
@@ -232,9 +257,9 @@ fn damage_invocation(rng: &mut Rng, state: &mut State) {
                 false => rng.pick(&[4, 255]),
             }
         }
-        1 => invocation.node = rng.pick(&NAMES),
+        1 => invocation.node = any_name(rng),
         2 => invocation.visit = invocation.visit.wrapping_add(rng.pick(&[1, 2, u32::MAX])),
-        3 => invocation.action = rng.pick(&NAMES),
+        3 => invocation.action = any_name(rng),
         4 => invocation.attempt = rng.pick(&[0, 1, u32::MAX]),
         5 => invocation.input = rng.pick(&EDGES),
         _ => {
@@ -270,8 +295,8 @@ fn damage_store(rng: &mut Rng, workflow: &Workflow, state: &mut State) {
             match rng.below(5) {
                 0 => signal.sequence = 1,
                 1 => signal.event_id = 1,
-                2 => signal.signal = 1,
-                3 => signal.outcome = 1,
+                2 => signal.signal = rng.pick(&[1, 256]),
+                3 => signal.outcome = rng.pick(&[1, 256]),
                 _ => signal.data = 1,
             }
         }
@@ -297,7 +322,7 @@ fn damage_slots(rng: &mut Rng, workflow: &Workflow, state: &mut State) {
     };
     match rng.below(6) {
         0 => state.visits[at] = rng.pick(&[0, 1, 2, u32::MAX]),
-        1 => state.streaks[at].outcome = rng.pick(&NAMES),
+        1 => state.streaks[at].outcome = any_name(rng),
         2 => state.streaks[at].count = rng.pick(&[0, 1, 2, u32::MAX]),
         3 => {
             let used = (workflow.limit_count as usize).min(LIMITS);
@@ -313,8 +338,8 @@ fn damage_slots(rng: &mut Rng, workflow: &Workflow, state: &mut State) {
         4 => match rng.below(3) {
             0 => state.results[at].output = Output::Nothing,
             1 => state.results[at].visit = 1,
-            _ => state.results[at].outcome = 1,
+            _ => state.results[at].outcome = rng.pick(&[1, 1, 256]),
         },
-        _ => state.results[at].output = output(rng),
+        _ => state.results[at].output = output(rng, any_error),
     }
 }

@@ -9,7 +9,9 @@ use calls::{text, Answer, Call};
 use generator::rng::Rng;
 use generator::Generator;
 
+use crate::asked::{Asked, Boundary};
 use crate::counts::Counts;
+use crate::reasons::Reason;
 use crate::shrink::shrink;
 
 /// Differences that are printed of one seed.
@@ -43,23 +45,30 @@ pub struct Side {
     pub answer: fn(&Call) -> Tried,
 }
 
-pub const PLAIN: Side = Side {
-    name: "plain",
-    answer: |call| Ok(plain::answer(call)),
-};
-
-/// A call with some of its numbers changed: what the boundary says, or what differs.
-pub type Probe = fn(&mut Rng, &Call) -> Result<u32, String>;
-
 /// How the original is compared.
 pub struct Comparison {
+    /// The plain reading: it is compared too, and goes on alone where a call leaves the comparison.
+    pub plain: fn(&Call) -> Answer,
+    pub reason: fn(&Call, &Answer) -> Option<Reason>,
+    /// Those beside the plain reading.
     pub sides: Vec<Side>,
-    pub probe: Option<Probe>,
+    /// The same behind the boundary, the plain reading among them.
+    pub boundaries: Vec<Boundary>,
     pub generator: fn(u64) -> Generator,
     /// Without the original's cross-checks.
     pub fast: bool,
     /// Ends a seed at its first difference, which is not made small.
     pub first: bool,
+}
+
+/// What one call showed.
+struct Compared {
+    /// The answer that the history goes on with, if there is one.
+    answer: Option<Answer>,
+    reason: Option<Reason>,
+    /// How the answers differ, and what the boundaries part in.
+    differs: bool,
+    parted: Option<String>,
 }
 
 impl Comparison {
@@ -75,24 +84,79 @@ impl Comparison {
         })
     }
 
-    fn differs(&self, call: &Call, original: &Tried) -> bool {
-        let agrees = |side: &Side| (side.answer)(call) == *original;
-        original.is_err() || !self.sides.iter().all(agrees)
+    /// Whether some side answers otherwise than is right.
+    fn parts_from(&self, call: &Call, plain: &Answer, right: &Answer) -> bool {
+        let agrees = |side: &Side| (side.answer)(call).is_ok_and(|answer| answer == *right);
+        plain != right || !self.sides.iter().all(agrees)
+    }
+
+    /// The call on all sides: with the original, or, for a reason, without it.
+    fn call(&self, call: &Call) -> Compared {
+        let plain = (self.plain)(call);
+        let reason = (self.reason)(call, &plain);
+        let mut compared = Compared {
+            answer: None,
+            reason,
+            differs: false,
+            parted: None,
+        };
+        match reason.map(Reason::said) {
+            None => {
+                compared.answer = self.original(call).ok();
+                let agrees = |right: &Answer| !self.parts_from(call, &plain, right);
+                compared.differs = !compared.answer.as_ref().is_some_and(agrees);
+            }
+            Some(None) => {
+                compared.differs = self.parts_from(call, &plain, &plain);
+                compared.answer = Some(plain);
+            }
+            Some(Some(due)) => {
+                let said = Asked::of(call).compare(&self.boundaries);
+                compared.parted = match said {
+                    Ok(said) if said == due => None,
+                    Ok(said) => Some(format!("the boundary says {said}, not {due}")),
+                    Err(why) => Some(why),
+                };
+            }
+        }
+        compared
     }
 
     fn print(&self, call: &Call) {
         let small = match self.first {
             true => call.clone(),
-            false => shrink(call, |call| self.differs(call, &self.original(call))),
+            false => shrink(call, |call| self.call(call).differs),
         };
         println!("  {:8} {}", "call", text::print_call(&small));
         let show = |name, answer: Tried| match answer {
             Ok(answer) => println!("  {name:8} {}", text::print_answer(&answer)),
             Err(why) => println!("  {name:8} {why}"),
         };
-        show("original", self.original(&small));
+        match self.call(&small).reason {
+            None => show("original", self.original(&small)),
+            Some(reason) => println!("  {:8} {}", "original", reason.text()),
+        }
+        show("plain", Ok((self.plain)(&small)));
         for side in &self.sides {
             show(side.name, (side.answer)(&small));
+        }
+    }
+
+    /// A copy of the call at the boundary: with numbers changed and another buffer, or one field raised above what it
+    /// holds.
+    fn probe(&self, rng: &mut Rng, call: &Call, counts: &mut Counts) -> Option<String> {
+        let mut asked = Asked::of(call);
+        match rng.one_in(2) {
+            true => asked.damage(rng),
+            false => asked.raise(rng),
+        }
+        counts.count_above(&asked);
+        match asked.compare(&self.boundaries) {
+            Ok(said) => {
+                counts.add_one(format!("boundary says {said}"));
+                None
+            }
+            Err(why) => Some(why),
         }
     }
 
@@ -103,31 +167,39 @@ impl Comparison {
         let mut differences = 0;
         for n in 0..calls {
             let call = generator.call();
-            let original = self.original(&call);
-            let differs = self.differs(&call, &original);
-            let probe = self.probe.filter(|_| !differs && rng.one_in(8));
-            let probed = probe.map(|probe| probe(&mut rng, &call));
-            if let Some(Ok(said)) = &probed {
-                counts.add_one(format!("boundary says {said}"));
+            let mut compared = self.call(&call);
+            match compared.reason {
+                None if !compared.differs && rng.one_in(4) => {
+                    compared.parted = self.probe(&mut rng, &call, &mut counts);
+                }
+                None => {}
+                Some(reason) => {
+                    counts.leave(reason);
+                    if let Some(said) = reason.said() {
+                        counts.count_above(&Asked::of(&call));
+                        counts.add_one(format!("boundary says {said}"));
+                    }
+                }
             }
-            let parted = probed.and_then(Result::err);
-            if differs || parted.is_some() {
+            if compared.differs || compared.parted.is_some() {
                 differences += 1;
             }
             if differences <= PRINTED {
-                if differs {
+                if compared.differs {
                     println!("DIFFERENCE at seed {seed}, call {n}");
                     self.print(&call);
                 }
-                if let Some(why) = parted {
-                    println!("DIFFERENCE at seed {seed}, call {n}, changed: {why}");
+                if let Some(why) = &compared.parted {
+                    println!("DIFFERENCE at seed {seed}, call {n}, at the boundary: {why}");
                 }
             }
             if self.first && differences > 0 {
                 break;
             }
-            if let Ok(answer) = original {
-                counts.count(&call, &answer);
+            if let Some(answer) = compared.answer {
+                if compared.reason.is_none() {
+                    counts.count(&call, &answer);
+                }
                 generator.answered(&call, &answer);
             }
         }
@@ -141,19 +213,25 @@ impl Comparison {
             let (counts, differences) = self.seed(seed, calls);
             let mut total = total.lock().unwrap();
             println!(
-                "seed {seed}: {} calls, {differences} differences",
-                counts.calls
+                "seed {seed}: {} calls compared, {} not, {differences} differences",
+                counts.calls,
+                counts.left()
             );
             total.0.add(&counts);
             total.1 += differences;
         });
         let (counts, differences) = total.into_inner().unwrap();
         println!("{}", counts.table());
+        println!("{}", counts.reasons());
         let missing = counts.missing();
         for key in &missing {
             println!("not reached: {key}");
         }
-        println!("{} calls, {differences} differences", counts.calls);
+        println!(
+            "{} calls compared, {} not, {differences} differences",
+            counts.calls,
+            counts.left()
+        );
         differences == 0 && (self.first || missing.is_empty())
     }
 }
@@ -203,7 +281,9 @@ fn wrong_seed(seed: u64, calls: u64, readings: &[wrong::Reading]) -> Vec<Option<
     let mut first: Vec<Option<u64>> = vec![None; readings.len()];
     for n in 1..=calls {
         let call = generator.call();
-        let right = original::answer_fast(&call);
+        let Some(right) = right(&call, &mut generator) else {
+            continue;
+        };
         for (reading, first) in readings.iter().zip(&mut first) {
             if first.is_none() && !answers(reading, &call, &right) {
                 *first = Some(n);
@@ -215,6 +295,18 @@ fn wrong_seed(seed: u64, calls: u64, readings: &[wrong::Reading]) -> Vec<Option<
         generator.answered(&call, &right);
     }
     first
+}
+
+/// The original's answer to a call that is compared; the generator is told the answer to another.
+pub fn right(call: &Call, generator: &mut Generator) -> Option<Answer> {
+    let plain = plain::answer(call);
+    let Some(reason) = Reason::of(call, &plain) else {
+        return Some(original::answer_fast(call));
+    };
+    if reason.said().is_none() {
+        generator.answered(call, &plain);
+    }
+    None
 }
 
 /// Whether a wrong reading answers like the original; one that gives up doesn't.
@@ -267,4 +359,171 @@ pub fn recorded(files: &[String]) -> Result<bool, String> {
         good &= differences == 0;
     }
     Ok(good)
+}
+
+#[cfg(test)]
+mod tests {
+    use std::sync::atomic::AtomicU64;
+
+    use calls::layout::{ANSWER, CALL, CALL_SIGNAL, RECORD, SHEET};
+
+    use super::*;
+    use crate::asked;
+
+    const NOTED: u32 = 5;
+    const CALLS: u64 = 4_000;
+
+    fn plain() -> Comparison {
+        Comparison {
+            plain: plain::answer,
+            reason: Reason::of,
+            sides: Vec::new(),
+            boundaries: vec![asked::PLAIN],
+            generator: Generator::new,
+            fast: true,
+            first: true,
+        }
+    }
+
+    #[test]
+    fn ranges_leave_and_are_counted() {
+        let (counts, differences) = plain().seed(1, CALLS);
+        assert_eq!(differences, 0);
+        assert_eq!(counts.calls + counts.left(), CALLS);
+        for reason in [Reason::CallNumber, Reason::RecordNumber] {
+            let count = counts.left_for(reason);
+            assert!(count > 0);
+            let row = format!("| {} | {count} |", reason.text());
+            assert!(counts.reasons().contains(&row));
+        }
+        assert_eq!(counts.left_for(Reason::OtherRefusal), 0);
+    }
+
+    /// A rule that the original lacks: noted events are refused with 31.
+    fn without_noted(call: &Call) -> Answer {
+        match plain::answer(call) {
+            Answer::Next { .. } if call.event.kind == NOTED => Answer::Refused {
+                number: 31,
+                item: calls::NONE,
+            },
+            answer => answer,
+        }
+    }
+
+    #[test]
+    fn a_refusal_that_the_original_lacks_leaves() {
+        let mut comparison = Comparison {
+            plain: without_noted,
+            sides: vec![Side {
+                name: "the same",
+                answer: |call| Ok(without_noted(call)),
+            }],
+            ..plain()
+        };
+        let (counts, differences) = comparison.seed(1, CALLS);
+        assert_eq!(differences, 0);
+        assert!(counts.left_for(Reason::OtherRefusal) > 20);
+        // A side that lacks the rule is found, though the original isn't asked.
+        comparison.sides[0].answer = |call| Ok(plain::answer(call));
+        assert!(comparison.seed(1, CALLS).1 > 0);
+    }
+
+    #[test]
+    fn a_difference_among_those_compared_is_found() {
+        let comparison = Comparison {
+            plain: without_noted,
+            sides: vec![Side {
+                name: "another",
+                answer: |call| match without_noted(call) {
+                    Answer::Refused { number: 22, item } => {
+                        Ok(Answer::Refused { number: 23, item })
+                    }
+                    answer => Ok(answer),
+                },
+            }],
+            first: false,
+            ..plain()
+        };
+        let (counts, differences) = comparison.seed(1, CALLS);
+        assert!(counts.left_for(Reason::OtherRefusal) > 20);
+        assert!(differences > 20);
+    }
+
+    const OTHER_INPUT: u32 = 7_777;
+    static WENT_ON: AtomicU64 = AtomicU64::new(0);
+
+    /// Answers a noted event otherwise than the original, and sees the record that it left come back.
+    fn other_input(call: &Call) -> Answer {
+        let before = call.state.as_ref().map(|state| state.input);
+        if before == Some(OTHER_INPUT) {
+            WENT_ON.fetch_add(1, Ordering::Relaxed);
+        }
+        let mut answer = plain::answer(call);
+        if let (Answer::Next { state, .. }, NOTED) = (&mut answer, call.event.kind) {
+            state.input = OTHER_INPUT;
+        }
+        answer
+    }
+
+    #[test]
+    fn the_history_goes_on_with_the_plain_record() {
+        let comparison = Comparison {
+            plain: other_input,
+            reason: |call, plain| {
+                let accepted = matches!(plain, Answer::Next { .. }) && call.event.kind == NOTED;
+                match accepted {
+                    true => Some(Reason::OtherRefusal),
+                    false => Reason::of(call, plain),
+                }
+            },
+            ..plain()
+        };
+        let (counts, differences) = comparison.seed(1, CALLS);
+        assert_eq!(differences, 0);
+        assert!(counts.left_for(Reason::OtherRefusal) > 20);
+        assert!(WENT_ON.load(Ordering::Relaxed) > 20);
+    }
+
+    /// Reads a signal in 8 bits.
+    fn cut_signal(
+        sheet: &[u32; SHEET],
+        call: &[u64; CALL],
+        record: &[u64; RECORD],
+        answer: &mut [u64],
+    ) -> u32 {
+        let mut call = *call;
+        call[CALL_SIGNAL] %= 256;
+        boundary::transition(sheet, &call, record, answer)
+    }
+
+    /// Writes into the buffer before it refuses.
+    fn early(
+        sheet: &[u32; SHEET],
+        call: &[u64; CALL],
+        record: &[u64; RECORD],
+        answer: &mut [u64],
+    ) -> u32 {
+        let said = boundary::transition(sheet, call, record, answer);
+        if said == 3 && answer.len() >= ANSWER {
+            answer[0] = 0;
+        }
+        said
+    }
+
+    #[test]
+    fn wrong_boundaries_are_found() {
+        for transition in [cut_signal, early] {
+            let wrong = Boundary {
+                name: "wrong",
+                transition,
+            };
+            for boundaries in [vec![asked::PLAIN, wrong], vec![wrong]] {
+                let comparison = Comparison {
+                    boundaries,
+                    ..plain()
+                };
+                assert_eq!(comparison.seed(1, CALLS).1, 1);
+            }
+        }
+    }
 }

@@ -2,12 +2,30 @@
 
 use std::collections::BTreeMap;
 
+use calls::layout::{ENDINGS, NOTES};
 use calls::{Answer, Call, Note, Order, Output, NONE};
+use generator::fields::{Field, FIELDS};
+
+use crate::asked::Asked;
+use crate::reasons::Reason;
+
+/// Numbers above a field that are counted each.
+const ABOVE: [(u64, &str); 6] = [
+    (1 << 8, "256"),
+    (1 << 16, "65536"),
+    (u32::MAX as u64, "2^32 - 1"),
+    (1 << 32, "2^32"),
+    (1 << 63, "2^63"),
+    (u64::MAX, "2^64 - 1"),
+];
 
 #[derive(Default)]
 pub struct Counts {
+    /// Those that were compared with the original.
     pub calls: u64,
     reached: BTreeMap<String, u64>,
+    /// Those that were not.
+    left: BTreeMap<Reason, u64>,
 }
 
 impl Counts {
@@ -22,8 +40,34 @@ impl Counts {
         *self.reached.entry(key).or_default() += 1;
     }
 
+    /// The fields that hold too large a number, and the numbers.
+    pub fn count_above(&mut self, asked: &Asked) {
+        for (field, number) in asked.above() {
+            self.add_one(field.key());
+            let known = ABOVE.iter().find(|(known, _)| *known == number);
+            let name = known.map_or("another", |(_, name)| name);
+            self.add_one(format!("above its field: number {name}"));
+        }
+    }
+
+    /// A call that is not compared.
+    pub fn leave(&mut self, reason: Reason) {
+        *self.left.entry(reason).or_default() += 1;
+    }
+
+    pub fn left(&self) -> u64 {
+        self.left.values().sum()
+    }
+
+    pub fn left_for(&self, reason: Reason) -> u64 {
+        self.left.get(&reason).copied().unwrap_or(0)
+    }
+
     pub fn add(&mut self, other: &Counts) {
         self.calls += other.calls;
+        for (reason, count) in &other.left {
+            *self.left.entry(*reason).or_default() += count;
+        }
         for (key, count) in &other.reached {
             *self.reached.entry(key.clone()).or_default() += count;
         }
@@ -33,12 +77,14 @@ impl Counts {
         self.reached.get(key).copied().unwrap_or(0)
     }
 
-    /// What must be reached and wasn't.
+    /// What a comparison must reach and didn't.
     pub fn missing(&self) -> Vec<String> {
-        required()
-            .into_iter()
-            .filter(|key| self.of(key) == 0)
-            .collect()
+        let fields = FIELDS.iter().map(Field::key);
+        let numbers = ABOVE.map(|(_, name)| format!("above its field: number {name}"));
+        let said = (0..=3).map(|said| format!("boundary says {said}"));
+        let at_boundary = fields.chain(numbers).chain(said);
+        let keys = required().into_iter().chain(at_boundary);
+        keys.filter(|key| self.of(key) == 0).collect()
     }
 
     /// Rows of a table in Markdown.
@@ -46,6 +92,19 @@ impl Counts {
         let mut text = String::from("| Reached | Calls |\n|---|---|\n");
         for (key, count) in &self.reached {
             text.push_str(&format!("| {key} | {count} |\n"));
+        }
+        text
+    }
+
+    /// The same of those that were not compared.
+    pub fn reasons(&self) -> String {
+        let mut text = String::from("| Not compared | Calls |\n|---|---|\n");
+        for reason in Reason::ALL {
+            text.push_str(&format!(
+                "| {} | {} |\n",
+                reason.text(),
+                self.left_for(reason)
+            ));
         }
         text
     }
@@ -84,11 +143,11 @@ pub fn keys(call: &Call, answer: &Answer) -> Vec<String> {
             keys.push(steps_key(*microsteps));
             keys.extend(notes.iter().map(note_key));
             keys.extend(endings.iter().map(|e| format!("ending {}", e.ending)));
-            if notes.len() == 65 {
-                keys.push("65 notes".to_string());
+            if notes.len() == NOTES {
+                keys.push(format!("{NOTES} notes"));
             }
-            if endings.len() == 65 {
-                keys.push("65 endings".to_string());
+            if endings.len() == ENDINGS {
+                keys.push(format!("{ENDINGS} endings"));
             }
             keys.extend(error_keys(call, answer));
         }
@@ -156,7 +215,7 @@ fn error_keys(call: &Call, answer: &Answer) -> Vec<String> {
     keys
 }
 
-/// What a comparison must reach.
+/// What the answers of a comparison, and of the sample, must reach.
 pub fn required() -> Vec<String> {
     let mut keys: Vec<String> = Vec::new();
     for number in [20, 1, 3, 5, 6, 21, 22, 23, 24, 25, 26, 27, 28, 29, 30] {

@@ -3,8 +3,8 @@
 //! ```text
 //! harness compare SEED.. [--calls N] [--fast]   the original against the plain reading on N calls a seed
 //! harness library SEED.. [--calls N] [--fast] [--first]
-//!                                               the original against the linked library, and the plain reading unless
-//!                                               fast, on histories of all lengths; and refused numbers
+//!                                               the original against the linked library and the plain reading, on
+//!                                               histories of all lengths
 //! harness wrong SEED.. [--calls N]              after how many calls each wrong reading is found
 //! harness joint                                 the cases of Joint A on both
 //! harness recorded FILE..                       recorded calls and answers, in text form, on both
@@ -12,12 +12,15 @@
 //! harness read-sample                           reads crates/replay/stdin and compares it with both
 //! ```
 //!
-//! `--fast` leaves out the original's cross-checks, `--first` ends a seed at its first difference.
+//! `--fast` leaves out the original's cross-checks, `--first` ends a seed at its first difference. Calls that are not compared
+//! with the original are counted by reason.
 
+mod asked;
 mod compare;
 mod counts;
 #[cfg(feature = "library")]
 mod library;
+mod reasons;
 mod sample;
 mod shrink;
 
@@ -27,6 +30,7 @@ use calls::text;
 use generator::{joint, Generator};
 
 use compare::Comparison;
+use reasons::Reason;
 
 struct Arguments {
     seeds: Vec<u64>,
@@ -61,15 +65,21 @@ fn arguments(words: &[String]) -> Result<Arguments, String> {
     }
 }
 
-fn compare(arguments: &Arguments) -> bool {
-    let comparison = Comparison {
-        sides: vec![compare::PLAIN],
-        probe: None,
+/// The original against the plain reading.
+fn comparison(arguments: &Arguments) -> Comparison {
+    Comparison {
+        plain: plain::answer,
+        reason: Reason::of,
+        sides: Vec::new(),
+        boundaries: vec![asked::PLAIN],
         generator: Generator::new,
         fast: arguments.fast,
         first: arguments.first,
-    };
-    comparison.run(&arguments.seeds, arguments.calls)
+    }
+}
+
+fn compare(arguments: &Arguments) -> bool {
+    comparison(arguments).run(&arguments.seeds, arguments.calls)
 }
 
 #[cfg(feature = "library")]
@@ -79,14 +89,10 @@ fn library(arguments: &Arguments) -> Result<bool, String> {
         answer: library::answer,
     };
     let comparison = Comparison {
-        sides: match arguments.fast {
-            true => vec![library],
-            false => vec![compare::PLAIN, library],
-        },
-        probe: Some(library::probe),
+        sides: vec![library],
+        boundaries: vec![asked::PLAIN, library::LIBRARY],
         generator: Generator::of_all_lengths,
-        fast: arguments.fast,
-        first: arguments.first,
+        ..comparison(arguments)
     };
     Ok(comparison.run(&arguments.seeds, arguments.calls))
 }

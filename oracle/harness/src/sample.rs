@@ -48,42 +48,6 @@ fn shown(call: &Call, answer: &Answer) -> Shown {
     Shown { keys, course }
 }
 
-/// Numbers that the fields of an event or a record can hold: names 8 bits, error codes 16.
-fn in_range(call: &Call) -> bool {
-    let event = &call.event;
-    let names = [event.signal, event.outcome, event.node];
-    let codes = [
-        event.code,
-        call.mappings.answers[0].code,
-        call.mappings.answers[1].code,
-    ];
-    let state = call.state.as_ref().map_or(true, state_in_range);
-    state && names.iter().all(|name| *name <= 255) && codes.iter().all(|code| *code <= 65535)
-}
-
-fn state_in_range(state: &calls::State) -> bool {
-    let error = |error: &calls::ErrorInfo| error.code <= 65535 && error.node <= 255;
-    let output = |output: &calls::Output| match output {
-        calls::Output::Error(it) => error(it),
-        _ => true,
-    };
-    let invocation = &state.invocation;
-    state.position.node <= 255
-        && invocation.node <= 255
-        && invocation.action <= 255
-        && invocation.error.as_ref().map_or(true, error)
-        && output(&state.result)
-        && state
-            .signals
-            .iter()
-            .all(|s| s.signal <= 255 && s.outcome <= 255)
-        && state.streaks.iter().all(|s| s.outcome <= 255)
-        && state
-            .results
-            .iter()
-            .all(|r| r.outcome <= 255 && output(&r.output))
-}
-
 /// How often a call is to show something.
 fn quota(key: &str) -> usize {
     match key {
@@ -100,16 +64,15 @@ fn is_long(key: &str) -> bool {
     quota(key) <= 20 && !key.contains(" item ")
 }
 
-/// The generator's calls with the original's answers, in their order.
+/// The generator's calls that are compared, with the original's answers, in their order.
 fn each_call(seed: u64, mut take: impl FnMut(usize, &Call, &Answer)) {
     let mut generator = Generator::new(seed);
     for n in 0..TRIED {
         let call = generator.call();
-        let answer = original::answer_fast(&call);
-        if in_range(&call) {
+        if let Some(answer) = compare::right(&call, &mut generator) {
             take(n, &call, &answer);
+            generator.answered(&call, &answer);
         }
-        generator.answered(&call, &answer);
     }
 }
 
@@ -210,13 +173,15 @@ pub fn write(seed: u64) -> Result<bool, String> {
     fs::write(&path, readme(seed, &sample)).map_err(|why| format!("{path:?}: {why}"))?;
     println!("{}", sample.counts.table());
     println!("{} calls, {} bytes", sample.counts.calls, sample.text.len());
+    let mut whole = true;
     for key in required() {
         let count = sample.counts.of(&key);
+        whole &= count > 0;
         if count < 20 {
             println!("shown {count} times: {key}");
         }
     }
-    Ok(sample.counts.missing().is_empty() && read()?)
+    Ok(whole && read()?)
 }
 
 fn readme(seed: u64, sample: &Sample) -> String {

@@ -1,6 +1,7 @@
 //! Whatever numbers the structs hold, there is an answer.
 
-use calls::{numbers, Node, Rows, Workflow};
+use calls::{layout, numbers, Node, Rows, Workflow};
+use generator::fields::{Array, FIELDS};
 use generator::rng::Rng;
 
 /// Any number, small ones as often as others.
@@ -22,6 +23,17 @@ fn offset(rng: &mut Rng, first: usize, length: usize) -> usize {
     match rng.below(2) {
         0 => rng.below(first),
         _ => rng.below(length),
+    }
+}
+
+/// Numbers that their fields hold.
+fn within(array: Array, numbers: &mut [u64]) {
+    for field in FIELDS.iter().filter(|field| field.array == array) {
+        for place in field.places() {
+            if field.is_meant(numbers, place) {
+                numbers[place] %= field.most + 1;
+            }
+        }
     }
 }
 
@@ -59,13 +71,15 @@ fn any_numbers_have_an_answer() {
         for _ in 0..rng.below(60) {
             record[offset(&mut rng, 30, numbers::RECORD)] = small(&mut rng);
         }
+        if round % 4 != 0 {
+            within(Array::Record, &mut record);
+        }
         let state = numbers::state_of(&record);
         let mut call = vec![0; numbers::CALL];
         call.fill_with(|| small(&mut rng));
-        call[7] = state.is_some().into();
-        call[21] %= 2;
-        call[24] %= 2;
-        call[25] = number(&mut rng);
+        within(Array::Call, &mut call);
+        call[layout::CALL_HAS_RECORD] = state.is_some().into();
+        call[layout::CALL_DELAY] = number(&mut rng);
         let call = numbers::call_of(numbers::workflow_of(&sheet), &call, state);
         plain::answer(&call.expect("a call"));
     }

@@ -1,6 +1,6 @@
 //! The plain reading under the library's C names, so that what calls the library can be tested without it.
 
-use calls::numbers::{CALL, RECORD, SHEET};
+use calls::layout::{CALL, RECORD, SHEET};
 use calls::Ceilings;
 
 /// # Safety

@@ -1,8 +1,11 @@
 //! Joint A through the library, and what it says of numbers that it refuses.
 
-use calls::numbers;
+use calls::{numbers, State};
 use generator::joint;
-use kuxhoveza::{layout, transition, verdict, Ceilings, Fault, Record, Refusal};
+use kuxhoveza::{
+    layout, raw, transition, verdict, Answer, Call, Ceilings, Ending, Fault, Note, Order, Record,
+    Refusal,
+};
 
 const CEILINGS: Ceilings = Ceilings {
     nodes: 64,
@@ -11,22 +14,164 @@ const CEILINGS: Ceilings = Ceilings {
     attempts: 64,
 };
 
+fn call_numbers(call: &calls::Call) -> Call {
+    numbers::call(call).try_into().unwrap()
+}
+
+fn record_numbers(state: &State) -> [u64; layout::RECORD] {
+    numbers::record(state).try_into().unwrap()
+}
+
+fn order_of(order: &calls::Order) -> Order {
+    match *order {
+        calls::Order::Schedule {
+            node,
+            visit,
+            action,
+            attempt,
+            not_before,
+            input,
+            params,
+        } => Order::Schedule {
+            node,
+            visit,
+            action,
+            attempt,
+            not_before,
+            input,
+            params,
+        },
+        calls::Order::Retry {
+            node,
+            visit,
+            attempt,
+            not_before,
+        } => Order::Retry {
+            node,
+            visit,
+            attempt,
+            not_before,
+        },
+    }
+}
+
+/// Every part of an answer is the one that is expected.
+fn is(answer: Answer, expected: &calls::Answer) {
+    match (answer, expected) {
+        (
+            Answer::Next { record, report },
+            calls::Answer::Next {
+                state,
+                orders,
+                notes,
+                endings,
+                microsteps,
+            },
+        ) => {
+            assert_eq!(record.numbers(), &record_numbers(state));
+            assert_eq!(report.microsteps(), *microsteps);
+            assert_eq!(report.order(), orders.first().map(order_of));
+            let said: Vec<Note> = report.notes().collect();
+            let expected = notes.iter().map(|note| Note {
+                code: note.code,
+                node: note.node,
+                a: note.a,
+                b: note.b,
+                c: note.c,
+            });
+            assert_eq!(said, expected.collect::<Vec<_>>());
+            let said: Vec<Ending> = report.endings().collect();
+            let expected = endings.iter().map(|it| Ending {
+                sequence: it.sequence,
+                ending: it.ending,
+            });
+            assert_eq!(said, expected.collect::<Vec<_>>());
+        }
+        (
+            Answer::Want {
+                node,
+                field,
+                from,
+                record,
+            },
+            calls::Answer::Wants {
+                node: wanted,
+                field: its_field,
+                from: its_from,
+                state,
+            },
+        ) => {
+            assert_eq!((node, field, from), (*wanted, *its_field, *its_from));
+            for (offset, number) in record_numbers(state).into_iter().enumerate() {
+                assert_eq!(record.number(offset), number);
+            }
+        }
+        (Answer::Refused(refusal), calls::Answer::Refused { number, item }) => {
+            assert_eq!((refusal.number, refusal.item), (*number, *item));
+        }
+        (answer, expected) => panic!("{answer:?}, not {expected:?}"),
+    }
+}
+
 #[test]
 fn joint_a() {
     for case in joint::cases() {
         let sheet = numbers::sheet(&case.call.workflow);
-        let call = numbers::call(&case.call).try_into().unwrap();
-        let record: Option<Record> = case
-            .call
-            .state
-            .map(|state| numbers::record(&state).try_into().unwrap());
+        let call = call_numbers(&case.call);
+        let record = case.call.state.as_ref().map(record_numbers);
         let mut answer = [7; layout::ANSWER];
-        assert_eq!(
-            transition(&sheet, &call, record.as_ref(), &mut answer),
-            Ok(())
-        );
+        let lent = record.unwrap_or([0; layout::RECORD]);
+        assert_eq!(raw::transition(&sheet, &call, &lent, &mut answer), 0);
         let expected = numbers::answer(&case.expected).unwrap();
         assert_eq!(answer[..], expected, "{}", case.name);
+        let record = record.map(Record::from_numbers);
+        is(
+            transition(&sheet, &call, record.as_ref()).unwrap(),
+            &case.expected,
+        );
+    }
+}
+
+/// A want is answered by the same call on the same record, with the value added.
+#[test]
+fn a_want() {
+    let sheet = numbers::sheet(&joint::sheet());
+    let mut start = joint::call(&joint::sheet(), None, joint::start());
+    let values = start.mappings;
+    start.mappings.count = 0;
+    let wanted = transition(&sheet, &call_numbers(&start), None).unwrap();
+    assert!(matches!(
+        wanted,
+        Answer::Want {
+            node: 0,
+            field: 0,
+            ..
+        }
+    ));
+    is(wanted, &plain::answer(&start));
+    start.mappings = values;
+    let next = transition(&sheet, &call_numbers(&start), None).unwrap();
+    assert!(matches!(next, Answer::Next { .. }));
+    is(next, &plain::answer(&start));
+}
+
+/// Whether a record is given decides, not the call's number.
+#[test]
+fn the_record_given_counts() {
+    let sheet = numbers::sheet(&joint::sheet());
+    let start = joint::call(&joint::sheet(), None, joint::start());
+    let mut call = call_numbers(&start);
+    for mark in [0, 1, 2] {
+        call[layout::CALL_HAS_RECORD] = mark;
+        let Ok(Answer::Next { record, .. }) = transition(&sheet, &call, None) else {
+            panic!("a start is accepted");
+        };
+        let again = transition(&sheet, &call, Some(&record));
+        let refused = Refusal {
+            number: 24,
+            item: 255,
+        };
+        assert_eq!(again, Ok(Answer::Refused(refused)));
     }
 }
 
@@ -34,31 +179,25 @@ fn joint_a() {
 fn refused_numbers() {
     let sheet = numbers::sheet(&joint::sheet());
     let start = joint::call(&joint::sheet(), None, joint::start());
-    let call: [u64; layout::CALL] = numbers::call(&start).try_into().unwrap();
+    let call = call_numbers(&start);
     let record = [u64::MAX; layout::RECORD];
-    let mut buffer = vec![7; layout::ANSWER + 1];
-    let short = &mut buffer[..layout::ANSWER - 1];
-    assert_eq!(
-        transition(&sheet, &call, None, short),
-        Err(Fault::ShortBuffer)
-    );
     let mut bad = call;
-    bad[layout::CALL_KIND] = 1 << 32;
-    assert_eq!(
-        transition(&sheet, &bad, None, &mut buffer),
-        Err(Fault::Call)
-    );
+    bad[layout::CALL_SIGNAL] = 256;
+    assert_eq!(transition(&sheet, &bad, None), Err(Fault::Call));
+    let stored = Record::from_numbers(record);
+    assert_eq!(transition(&sheet, &call, Some(&stored)), Err(Fault::Record));
+
+    let mut buffer = vec![7; layout::ANSWER + 1];
+    let said =
+        |call: &Call, buffer: &mut [u64]| raw::transition(&sheet, call, &record, buffer) as usize;
+    let short = &mut buffer[..layout::ANSWER - 1];
+    assert_eq!(said(&call, short), layout::SHORT_BUFFER);
+    assert_eq!(said(&bad, &mut buffer), layout::BAD_CALL);
     bad = call;
     bad[layout::CALL_HAS_RECORD] = 1;
-    assert_eq!(
-        transition(&sheet, &bad, Some(&record), &mut buffer),
-        Err(Fault::Record)
-    );
+    assert_eq!(said(&bad, &mut buffer), layout::BAD_RECORD);
     assert!(buffer.iter().all(|number| *number == 7));
-    assert_eq!(
-        transition(&sheet, &call, Some(&record), &mut buffer),
-        Ok(())
-    );
+    assert_eq!(said(&call, &mut buffer), layout::WRITTEN);
     assert_eq!(buffer[layout::ANSWER], 7);
 }
 

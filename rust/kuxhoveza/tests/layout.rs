@@ -1,19 +1,45 @@
-//! The header's offsets are those of the oracle's number form: each names the field that it says.
+//! The header's offsets are those of the oracle's number form: each names the field that it says. The one place that
+//! states the layout's lengths as numbers.
 
 use calls::{numbers, Ending, ErrorInfo, Note, Order, Output, State, NONE};
+use generator::fields::{Array, FIELDS};
+use generator::rng::Rng;
 use kuxhoveza::layout::*;
 
-/// Numbers that are each their offset and one.
-fn counted<const N: usize>() -> [u64; N] {
-    std::array::from_fn(|offset| offset as u64 + 1)
+/// How many arrays of numbers are tried.
+const ROUNDS: u64 = 8;
+
+/// Any numbers that their fields hold, every output an error and a record with the call.
+fn filled<const N: usize>(array: Array, round: u64) -> [u64; N] {
+    let mut rng = Rng::new(round);
+    let mut numbers = [0; N].map(|_: u64| rng.next() >> 32);
+    match array {
+        Array::Call => numbers[CALL_HAS_RECORD] = 1,
+        Array::Record => {
+            numbers[RECORD_ERROR] = 1;
+            numbers[RECORD_RESULT] = 2;
+            for row in numbers[RECORD_RESULTS..].chunks_mut(RESULT_WIDTH) {
+                row[2] = 2;
+            }
+        }
+    }
+    for field in FIELDS.iter().filter(|field| field.array == array) {
+        for place in field.places() {
+            if field.is_meant(&numbers, place) {
+                numbers[place] %= field.most + 1;
+            }
+        }
+    }
+    numbers
 }
 
-fn is(offset: usize, field: impl Into<u64>) {
-    assert_eq!(field.into(), offset as u64 + 1);
+fn filled_record(round: u64) -> [u64; RECORD] {
+    filled(Array::Record, round)
 }
 
 #[test]
 fn lengths() {
+    assert_eq!([SHEET, CALL, RECORD, ANSWER], [4169, 38, 918, 1386]);
     assert_eq!(
         [SHEET, CALL, RECORD, ANSWER],
         [
@@ -38,16 +64,19 @@ fn lengths() {
 
 #[test]
 fn sheet() {
-    let sheet = numbers::workflow_of(&counted::<SHEET>().map(|number| number as u32));
+    let mut rng = Rng::new(1);
+    let words = [0; SHEET].map(|_: u32| rng.next() as u32);
+    let sheet = numbers::workflow_of(&words);
+    let is = |offset: usize, field: u32| assert_eq!(field, words[offset]);
     is(SHEET_FORMAT, sheet.format);
     is(SHEET_START, sheet.start);
-    is(SHEET_MAX_VISITS, sheet.max_visits_per_node);
+    is(SHEET_MAX_VISITS_PER_NODE, sheet.max_visits_per_node);
     is(SHEET_MAX_ACTIVATIONS, sheet.max_activations);
-    is(SHEET_NODES, sheet.node_count);
-    is(SHEET_ROUTES, sheet.route_count);
-    is(SHEET_LIMITS, sheet.limit_count);
-    is(SHEET_ACTIONS, sheet.action_count);
-    is(SHEET_DECLARED, sheet.declared_count);
+    is(SHEET_NODE_COUNT, sheet.node_count);
+    is(SHEET_ROUTE_COUNT, sheet.route_count);
+    is(SHEET_LIMIT_COUNT, sheet.limit_count);
+    is(SHEET_ACTION_COUNT, sheet.action_count);
+    is(SHEET_DECLARED_COUNT, sheet.declared_count);
     for (i, node) in sheet.nodes.iter().enumerate() {
         is(SHEET_NODE_KIND + i, node.kind);
         is(SHEET_NODE_ACTION + i, node.action);
@@ -75,120 +104,112 @@ fn sheet() {
         is(SHEET_DECLARED_ACTION + i, row.action);
         is(SHEET_DECLARED_OUTCOME + i, row.outcome);
     }
+    assert_eq!(numbers::sheet(&sheet)[..], words);
 }
 
 #[test]
 fn call() {
-    let mut call = counted::<CALL>();
-    call[CALL_HAS_RECORD] = 1;
-    for (has_error, retryable) in [(true, false), (false, true)] {
-        call[CALL_HAS_ERROR] = has_error.into();
-        call[CALL_RETRYABLE] = retryable.into();
-        let (_, _, event, _) = numbers::carried_of(&call).unwrap();
-        assert_eq!((event.has_error, event.retryable), (has_error, retryable));
-    }
+    (0..ROUNDS).for_each(call_of);
+}
+
+fn call_of(round: u64) {
+    let call: [u64; CALL] = filled(Array::Call, round);
+    let is = |offset: usize, field: u64| assert_eq!(field, call[offset]);
     let (ceilings, limits, event, mappings) = numbers::carried_of(&call).unwrap();
-    is(CALL_CEILING_NODES, ceilings.nodes);
-    is(CALL_CEILING_VISITS, ceilings.visits);
-    is(CALL_CEILING_ACTIVATIONS, ceilings.activations);
-    is(CALL_CEILING_ATTEMPTS, ceilings.attempts);
-    is(CALL_LIMIT_MICROSTEPS, limits.microsteps);
-    is(CALL_LIMIT_COMMANDS, limits.commands);
-    is(CALL_LIMIT_OPERATIONS, limits.operations);
+    is(CALL_CEILING_NODES, ceilings.nodes.into());
+    is(CALL_CEILING_VISITS, ceilings.visits.into());
+    is(CALL_CEILING_ACTIVATIONS, ceilings.activations.into());
+    is(CALL_CEILING_ATTEMPTS, ceilings.attempts.into());
+    is(CALL_LIMIT_MICROSTEPS, limits.microsteps.into());
+    is(CALL_LIMIT_COMMANDS, limits.commands.into());
+    is(CALL_LIMIT_OPERATIONS, limits.operations.into());
     is(CALL_SEQUENCE, event.sequence);
     is(CALL_ACCEPTED_AT, event.accepted_at);
-    is(CALL_EVENT_ID, event.event_id);
-    is(CALL_KIND, event.kind);
-    is(CALL_INPUT, event.input);
-    is(CALL_SIGNAL, event.signal);
-    is(CALL_OUTCOME, event.outcome);
-    is(CALL_DATA, event.data);
-    is(CALL_NODE, event.node);
-    is(CALL_VISIT, event.visit);
-    is(CALL_ATTEMPT, event.attempt);
-    is(CALL_STATUS, event.status);
-    is(CALL_OUTPUT, event.output);
-    is(CALL_ERROR_CODE, event.code);
-    is(CALL_ERROR_DETAIL, event.detail);
+    is(CALL_EVENT_ID, event.event_id.into());
+    is(CALL_KIND, event.kind.into());
+    is(CALL_INPUT, event.input.into());
+    is(CALL_SIGNAL, event.signal.into());
+    is(CALL_OUTCOME, event.outcome.into());
+    is(CALL_DATA, event.data.into());
+    is(CALL_NODE, event.node.into());
+    is(CALL_VISIT, event.visit.into());
+    is(CALL_ATTEMPT, event.attempt.into());
+    is(CALL_STATUS, event.status.into());
+    is(CALL_OUTPUT, event.output.into());
+    is(CALL_HAS_ERROR, event.has_error.into());
+    is(CALL_RETRYABLE, event.retryable.into());
+    is(CALL_ERROR_CODE, event.code.into());
+    is(CALL_ERROR_DETAIL, event.detail.into());
     is(CALL_DELAY, event.delay);
-    is(CALL_RESOLUTION, event.resolution);
-    is(CALL_ANSWERED, mappings.count);
+    is(CALL_RESOLUTION, event.resolution.into());
+    is(CALL_ANSWERED, mappings.count.into());
     assert_eq!(mappings.answers.len(), MAPPINGS);
     for (i, answer) in mappings.answers.iter().enumerate() {
         let row = CALL_MAPPINGS + MAPPING_WIDTH * i;
-        is(row, answer.kind);
-        is(row + 1, answer.value);
-        is(row + 2, answer.code);
-        is(row + 3, answer.detail);
-        is(row + 4, answer.operations);
+        is(row, answer.kind.into());
+        is(row + 1, answer.value.into());
+        is(row + 2, answer.code.into());
+        is(row + 3, answer.detail.into());
+        is(row + 4, answer.operations.into());
     }
 }
 
-/// A record's numbers with every output an error.
-fn counted_record() -> [u64; RECORD] {
-    let mut record = counted::<RECORD>();
-    record[RECORD_HAS_ERROR] = 1;
-    record[RECORD_RESULT] = 2;
-    for node in 0..NODES {
-        record[RECORD_RESULTS + RESULT_WIDTH * node + 2] = 2;
-    }
-    record
+fn is_error(numbers: &[u64], error: ErrorInfo) {
+    let found = [error.code, error.node, error.detail].map(u64::from);
+    assert_eq!(numbers[1..4], found);
 }
 
-fn is_error(offset: usize, error: ErrorInfo) {
-    is(offset, error.code);
-    is(offset + 1, error.node);
-    is(offset + 2, error.detail);
-}
-
-fn is_output(offset: usize, output: Output) {
+fn is_output(numbers: &[u64], output: Output) {
     let Output::Error(error) = output else {
         panic!("{output:?}");
     };
-    is_error(offset + 1, error);
+    is_error(numbers, error);
 }
 
 #[test]
 fn record() {
-    let state = numbers::state_of(&counted_record()).unwrap();
-    is(RECORD_STATUS, state.status);
-    is(RECORD_INPUT, state.input);
-    is(RECORD_ACTIVATIONS, state.activations);
+    (0..ROUNDS).for_each(record_of);
+}
+
+fn record_of(round: u64) {
+    let record = filled_record(round);
+    let state = numbers::state_of(&record).unwrap();
+    let is = |offset: usize, field: u64| assert_eq!(field, record[offset]);
+    is(RECORD_STATUS, state.status.into());
+    is(RECORD_INPUT, state.input.into());
+    is(RECORD_ACTIVATIONS, state.activations.into());
     is(RECORD_LAST_SEQUENCE, state.last_sequence);
     is(RECORD_LAST_ACCEPTED_AT, state.last_accepted_at);
-    is(RECORD_POSITION_NODE, state.position.node);
-    is(RECORD_POSITION_VISIT, state.position.visit);
-    is(RECORD_PHASE, state.invocation.phase);
-    is(RECORD_INVOCATION_NODE, state.invocation.node);
-    is(RECORD_INVOCATION_VISIT, state.invocation.visit);
-    is(RECORD_INVOCATION_ACTION, state.invocation.action);
-    is(RECORD_INVOCATION_ATTEMPT, state.invocation.attempt);
-    is(RECORD_INVOCATION_INPUT, state.invocation.input);
-    is_error(RECORD_ERROR_CODE, state.invocation.error.unwrap());
-    assert_eq!(
-        [RECORD_ERROR_NODE, RECORD_ERROR_DETAIL],
-        [RECORD_ERROR_CODE + 1, RECORD_ERROR_CODE + 2]
-    );
-    is_output(RECORD_RESULT, state.result);
-    is(RECORD_STORED, state.signal_count);
+    is(RECORD_POSITION_NODE, state.position.node.into());
+    is(RECORD_POSITION_VISIT, state.position.visit.into());
+    is(RECORD_PHASE, state.invocation.phase.into());
+    is(RECORD_INVOCATION_NODE, state.invocation.node.into());
+    is(RECORD_INVOCATION_VISIT, state.invocation.visit.into());
+    is(RECORD_INVOCATION_ACTION, state.invocation.action.into());
+    is(RECORD_INVOCATION_ATTEMPT, state.invocation.attempt.into());
+    is(RECORD_INVOCATION_INPUT, state.invocation.input.into());
+    is_error(&record[RECORD_ERROR..], state.invocation.error.unwrap());
+    is_output(&record[RECORD_RESULT..], state.result);
+    is(RECORD_STORED, state.signal_count.into());
     for (i, signal) in state.signals.iter().enumerate() {
         let row = RECORD_SIGNALS + SIGNAL_WIDTH * i;
         is(row, signal.sequence);
-        is(row + 1, signal.event_id);
-        is(row + 2, signal.signal);
-        is(row + 3, signal.outcome);
-        is(row + 4, signal.data);
+        is(row + 1, signal.event_id.into());
+        is(row + 2, signal.signal.into());
+        is(row + 3, signal.outcome.into());
+        is(row + 4, signal.data.into());
     }
     for node in 0..NODES {
-        is(RECORD_VISITS + node, state.visits[node]);
+        is(RECORD_VISITS + node, state.visits[node].into());
         let row = RECORD_STREAKS + STREAK_WIDTH * node;
-        is(row, state.streaks[node].outcome);
-        is(row + 1, state.streaks[node].count);
+        is(row, state.streaks[node].outcome.into());
+        is(row + 1, state.streaks[node].count.into());
         let row = RECORD_RESULTS + RESULT_WIDTH * node;
-        is(row, state.results[node].visit);
-        is(row + 1, state.results[node].outcome);
-        is_output(row + 2, state.results[node].output);
+        is(row, state.results[node].visit.into());
+        is(row + 1, state.results[node].outcome.into());
+        is_output(&record[row + 2..], state.results[node].output);
     }
+    assert_eq!(numbers::record(&state), record);
     assert_eq!(
         [RECORD_STORED, RECORD],
         [
@@ -222,7 +243,7 @@ fn next(order: Order) -> Vec<u64> {
             }
         })
         .collect();
-    let state = numbers::state_of(&counted_record()).unwrap();
+    let state = numbers::state_of(&filled_record(0)).unwrap();
     let mut answer = vec![0; ANSWER];
     numbers::write_next(
         &mut answer,
@@ -247,24 +268,24 @@ fn answer() {
         input: number(ANSWER_ORDER_INPUT),
         params: Some(number(ANSWER_ORDER_PARAMS)),
     });
-    let mut expected = counted::<ANSWER>();
-    expected[ANSWER_KIND] = 1;
+    let mut expected: [u64; ANSWER] = std::array::from_fn(|offset| offset as u64 + 1);
+    expected[ANSWER_KIND] = NEXT as u64;
     expected[ANSWER_ORDER] = 1;
     expected[ANSWER_ORDER_HAS_PARAMS] = 1;
     expected[ANSWER_NOTED] = NOTES as u64;
     expected[ANSWER_ENDED] = ENDINGS as u64;
-    expected[ANSWER_RECORD..].copy_from_slice(&counted_record());
+    expected[ANSWER_RECORD..].copy_from_slice(&filled_record(0));
     assert_eq!(answer, expected);
 
     let mut answer = [0; 4];
     numbers::write_refusal(&mut answer, 12, NONE);
-    assert_eq!(answer[ANSWER_KIND], 3);
+    assert_eq!(answer[ANSWER_KIND], REFUSAL as u64);
     assert_eq!(answer[ANSWER_REFUSAL_NUMBER], 12);
     assert_eq!(answer[ANSWER_REFUSAL_ITEM], NONE.into());
 
     let mut answer = vec![0; ANSWER];
     numbers::write_want(&mut answer, 5, 1, 6, &State::fresh(42));
-    assert_eq!(answer[ANSWER_KIND], 2);
+    assert_eq!(answer[ANSWER_KIND], WANT as u64);
     assert_eq!(answer[ANSWER_WANT_NODE], 5);
     assert_eq!(answer[ANSWER_WANT_FIELD], 1);
     assert_eq!(answer[ANSWER_WANT_FROM], 6);
