@@ -5,6 +5,9 @@ use calls::numbers;
 use calls::Ceilings;
 use plain::{Decision, Kind};
 
+// The lists of a decision have their room in an answer.
+const _: () = assert!(plain::LIST == layout::NOTES && plain::LIST == layout::ENDINGS);
+
 /// 0 and the answer's numbers in the buffer; or, with the buffer as it was, 1 where it is too short, 2 where the
 /// call and 3 where the record has a number that its field can't hold.
 pub fn transition(

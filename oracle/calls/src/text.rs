@@ -36,10 +36,9 @@
 use std::fmt::Write;
 
 use crate::{
-    Action, Answer, BufferedSignal, Call, Ceilings, Declared, Ending, ErrorInfo, Event,
-    InvocationState, Limit, Limits, Mapping, Mappings, Node, NodeResult, Note, Order, Output,
-    Position, Route, State, Streak, Workflow, ACTIONS, DECLARED, LIMITS, NODES, NONE, ROUTES,
-    STORE,
+    layout as at, numbers, Action, Answer, BufferedSignal, Call, Ceilings, Declared, Ending,
+    ErrorInfo, Event, InvocationState, Limit, Limits, Mapping, Mappings, Node, NodeResult, Note,
+    Order, Output, Position, Route, State, Streak, Workflow, NODES, NONE,
 };
 
 type Parsed<T> = Result<T, String>;
@@ -387,10 +386,13 @@ impl<'a> Reader<'a> {
     }
 
     fn patches(&mut self, call: &mut Call) -> Parsed<()> {
+        let mut sheet = numbers::sheet(&call.workflow);
         for (offset, value) in self.list(|reader| Ok((reader.number()?, reader.number()?)))? {
-            *sheet_number(&mut call.workflow, offset as usize)
+            *sheet
+                .get_mut(offset as usize)
                 .ok_or_else(|| format!("{offset} is no offset of a sheet"))? = value;
         }
+        call.workflow = numbers::workflow_of(&sheet);
         for (offset, value) in self.list(|reader| Ok((reader.number()?, reader.long()?)))? {
             let number = call
                 .state
@@ -752,58 +754,11 @@ fn sheet_patch(workflow: &Workflow) -> Vec<(usize, u32)> {
     if rows == *workflow {
         return Vec::new();
     }
-    let mut whole = workflow.clone();
-    (0..)
-        .map_while(|offset| {
-            let value = *sheet_number(&mut whole, offset)?;
-            Some((offset, value, *sheet_number(&mut rows, offset)?))
-        })
-        .filter(|(_, value, row)| value != row)
-        .map(|(offset, value, _)| (offset, value))
+    let (whole, rows) = (numbers::sheet(workflow), numbers::sheet(&rows));
+    (0..numbers::SHEET)
+        .filter(|offset| whole[*offset] != rows[*offset])
+        .map(|offset| (offset, whole[offset]))
         .collect()
-}
-
-/// The number of a sheet at an offset of docs/NUMBERS.md.
-fn sheet_number(workflow: &mut Workflow, offset: usize) -> Option<&mut u32> {
-    let nodes = &mut workflow.nodes;
-    let routes = &mut workflow.routes;
-    let limits = &mut workflow.limits;
-    let (column, row) = match offset {
-        0 => return Some(&mut workflow.format),
-        1 => return Some(&mut workflow.start),
-        2 => return Some(&mut workflow.max_visits_per_node),
-        3 => return Some(&mut workflow.max_activations),
-        4 => return Some(&mut workflow.node_count),
-        5 => return Some(&mut workflow.route_count),
-        6 => return Some(&mut workflow.limit_count),
-        7 => return Some(&mut workflow.action_count),
-        8 => return Some(&mut workflow.declared_count),
-        9..457 => ((offset - 9) / NODES, (offset - 9) % NODES),
-        457..1993 => (7 + (offset - 457) / ROUTES, (offset - 457) % ROUTES),
-        1993..3529 => (10 + (offset - 1993) / LIMITS, (offset - 1993) % LIMITS),
-        3529..3657 => (13 + (offset - 3529) / ACTIONS, (offset - 3529) % ACTIONS),
-        3657..4169 => (15 + (offset - 3657) / DECLARED, (offset - 3657) % DECLARED),
-        _ => return None,
-    };
-    Some(match column {
-        0 => &mut nodes[row].kind,
-        1 => &mut nodes[row].action,
-        2 => &mut nodes[row].has_params,
-        3 => &mut nodes[row].signal,
-        4 => &mut nodes[row].code,
-        5 => &mut nodes[row].detail,
-        6 => &mut nodes[row].has_limits,
-        7 => &mut routes[row].node,
-        8 => &mut routes[row].outcome,
-        9 => &mut routes[row].target,
-        10 => &mut limits[row].node,
-        11 => &mut limits[row].outcome,
-        12 => &mut limits[row].limit,
-        13 => &mut workflow.actions[row].effect,
-        14 => &mut workflow.actions[row].max_attempts,
-        15 => &mut workflow.declared[row].action,
-        _ => &mut workflow.declared[row].outcome,
-    })
 }
 
 /// What the rows of a record leave out.
@@ -819,7 +774,7 @@ fn record_patch(state: &State) -> Vec<(usize, u64)> {
         return Vec::new();
     }
     let mut whole = state.clone();
-    (21..918)
+    (0..numbers::RECORD)
         .filter_map(|offset| {
             let value = record_number(&mut whole, offset)?.get();
             let row = record_number(&mut rows, offset)?.get();
@@ -856,10 +811,11 @@ impl Number<'_> {
 /// The number of a record at an offset of docs/NUMBERS.md, of those that the rows may leave out.
 fn record_number(state: &mut State, offset: usize) -> Option<Number<'_>> {
     Some(match offset {
-        21 => Number::Narrow(&mut state.signal_count),
-        22..342 => {
-            let signal = &mut state.signals[(offset - 22) / 5 % STORE];
-            match (offset - 22) % 5 {
+        at::RECORD_STORED => Number::Narrow(&mut state.signal_count),
+        at::RECORD_SIGNALS..at::RECORD_VISITS => {
+            let place = offset - at::RECORD_SIGNALS;
+            let signal = &mut state.signals[place / at::SIGNAL_WIDTH];
+            match place % at::SIGNAL_WIDTH {
                 0 => Number::Wide(&mut signal.sequence),
                 1 => Number::Narrow(&mut signal.event_id),
                 2 => Number::Narrow(&mut signal.signal),
@@ -867,9 +823,10 @@ fn record_number(state: &mut State, offset: usize) -> Option<Number<'_>> {
                 _ => Number::Narrow(&mut signal.data),
             }
         }
-        534..918 => {
-            let result = &mut state.results[(offset - 534) / 6];
-            match (offset - 534) % 6 {
+        at::RECORD_RESULTS..at::RECORD => {
+            let place = offset - at::RECORD_RESULTS;
+            let result = &mut state.results[place / at::RESULT_WIDTH];
+            match place % at::RESULT_WIDTH {
                 0 => Number::Narrow(&mut result.visit),
                 1 => Number::Narrow(&mut result.outcome),
                 _ => return None,
@@ -882,7 +839,6 @@ fn record_number(state: &mut State, offset: usize) -> Option<Number<'_>> {
 #[cfg(test)]
 mod tests {
     use super::*;
-    use crate::numbers;
 
     fn call() -> Call {
         let mut workflow = Workflow::empty();
@@ -938,16 +894,6 @@ mod tests {
 
     #[test]
     fn offsets_are_those_of_the_number_form() {
-        let mut workflow = Workflow::empty();
-        for offset in 0..numbers::SHEET {
-            *sheet_number(&mut workflow, offset).expect("an offset") = offset as u32 + 1;
-        }
-        let sheet = numbers::sheet(&workflow);
-        assert!((1..)
-            .zip(sheet.iter())
-            .all(|(place, number)| place == *number));
-        assert!(sheet_number(&mut workflow, numbers::SHEET).is_none());
-
         let mut state = State::fresh(0);
         for offset in 0..numbers::RECORD {
             let Some(number) = record_number(&mut state, offset) else {

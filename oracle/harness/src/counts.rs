@@ -267,10 +267,10 @@ pub fn required() -> Vec<String> {
         "want in status 2",
         "want in status 3",
         "microsteps 130",
-        "65 notes",
-        "65 endings",
     ] {
         keys.push(rest.to_string());
     }
+    keys.push(format!("{NOTES} notes"));
+    keys.push(format!("{ENDINGS} endings"));
     keys
 }

@@ -51,7 +51,8 @@ fn shown(call: &Call, answer: &Answer) -> Shown {
 /// How often a call is to show something.
 fn quota(key: &str) -> usize {
     match key {
-        "65 notes" | "65 endings" | "microsteps 130" | "microsteps 65 to 129" => 4,
+        "microsteps 130" | "microsteps 65 to 129" => 4,
+        _ if key.ends_with(" notes") || key.ends_with(" endings") => 4,
         "note 4" | "ending 3" => 20,
         "refusal 20, no item" | "refusal 25, no item" => 150,
         _ if key.contains(" item ") => 5,

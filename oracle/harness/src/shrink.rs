@@ -1,7 +1,7 @@
 //! Makes a call smaller while something holds of it: rows that may go do, then every number that may be 0 becomes 0, or
 //! else 1.
 
-use calls::{numbers, Call, Workflow};
+use calls::{numbers, Call, Workflow, NODES, NONE, ROUTES, STORE};
 
 pub fn shrink(call: &Call, holds: impl Fn(&Call) -> bool) -> Call {
     let mut best = call.clone();
@@ -19,7 +19,7 @@ pub fn shrink(call: &Call, holds: impl Fn(&Call) -> bool) -> Call {
 /// Tries the call without each row, the last first.
 fn fewer_rows(best: &mut Call, holds: &impl Fn(&Call) -> bool) {
     let mut without = |count: fn(&Workflow) -> u32, remove: fn(&mut Call, usize)| {
-        for row in (0..count(&best.workflow).min(512) as usize).rev() {
+        for row in (0..(count(&best.workflow) as usize).min(ROUTES)).rev() {
             keep(best, |call| remove(call, row), holds);
         }
     };
@@ -41,7 +41,7 @@ fn fewer_rows(best: &mut Call, holds: &impl Fn(&Call) -> bool) {
         },
     );
     let stored = best.state.as_ref().map_or(0, |state| state.signal_count);
-    for i in (0..stored.min(64) as usize).rev() {
+    for i in (0..(stored as usize).min(STORE)).rev() {
         let change = |call: &mut Call| {
             let state = call.state.as_mut().expect("a record");
             remove(&mut state.signals, &mut state.signal_count, i);
@@ -70,7 +70,7 @@ fn remove_all<T: Default>(slots: &mut [T], count: &mut u32, holds: impl Fn(&T) -
 
 /// The numbers above that of a removed row are one less.
 fn renumber(number: &mut u32, removed: usize) {
-    if *number as usize > removed && *number < 255 {
+    if *number as usize > removed && *number < NONE {
         *number -= 1;
     }
 }
@@ -95,7 +95,7 @@ fn without_node(call: &mut Call, n: usize) {
     }
     renumber(&mut call.event.node, n);
     if let Some(state) = &mut call.state {
-        let mut nodes = 64;
+        let mut nodes = NODES as u32;
         remove(&mut state.visits, &mut nodes, n);
         remove(&mut state.streaks, &mut nodes, n);
         remove(&mut state.results, &mut nodes, n);
