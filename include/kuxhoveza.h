@@ -169,6 +169,25 @@ extern "C" {
  *   note            code, node, a, b, c
  *   ending          sequence, ending */
 
+/* What the numbers are (docs/NUMBERS.md has all of them, with the refusals and the a, b, c of notes):
+ *   node's kind         1 activity, 2 await-signal, 3 complete, 4 fail
+ *   action's effect     0 repeatable, 1 not, 2 reconcilable
+ *   outcome             0 ok, 1 received, 2 failed, 3 exhausted, 4 to 254 the host's, 255 absent
+ *   RECORD_STATUS       1 running, 2 waiting, 3 needs intervention, 4 completed, 5 failed
+ *   RECORD_PHASE        0 none, 1 scheduled, 2 unknown, 3 stuck
+ *   CALL_KIND           1 start, 2 signal, 3 result, 4 resolved, 5 noted
+ *   CALL_STATUS         1 success, 2 failure, 3 unknown, 4 expired
+ *   CALL_RESOLUTION     1 complete, 2 retry, 3 fail
+ *   mapping answer      1 value, 2 fault, 3 unencodable
+ *   ANSWER_ORDER        0 none, 1 schedule, 2 retry
+ *   ANSWER_WANT_FIELD   0 input, 1 params, 2 output
+ *   note                1 ignored, 2 stale, 3 not applicable, 4 overflow, 5 unrouted, 6 unknown, 7 stuck, 8 retry,
+ *                       9 loop exhausted
+ *   ending              1 routed, 2 unrouted, 3 overflow, 4 ignored
+ *   kernel's error code 1 visits exceeded, 2 activations exceeded, 3 undeclared outcome, 4 attempts exhausted,
+ *                       5 activity failed
+ * Times and delays are milliseconds. */
+
 /* No node, and an absent outcome. */
 #define KUXHOVEZA_NONE 255
 

@@ -216,7 +216,7 @@ impl Field {
     /// Whether the number at that place is this field: the tag before it says so.
     pub fn is_meant(&self, numbers: &[u64], place: usize) -> bool {
         self.under
-            .map_or(true, |(back, tag)| numbers[place - back] == tag)
+            .is_none_or(|(back, tag)| numbers[place - back] == tag)
     }
 
     fn is_above(&self, numbers: &[u64], place: usize) -> bool {

@@ -10,11 +10,14 @@ use crate::shrink::each_number;
 /// What stands in a buffer before a call.
 pub const BEFORE: u64 = 0xdead_beef_dead_beef;
 
+/// The exported function, as include/kuxhoveza.h has it.
+type Transition = fn(&[u32; SHEET], &[u64; CALL], &[u64; RECORD], &mut [u64]) -> u32;
+
 /// Something behind the boundary.
 #[derive(Clone, Copy)]
 pub struct Boundary {
     pub name: &'static str,
-    pub transition: fn(&[u32; SHEET], &[u64; CALL], &[u64; RECORD], &mut [u64]) -> u32,
+    pub transition: Transition,
 }
 
 pub const PLAIN: Boundary = Boundary {

@@ -66,7 +66,7 @@ struct Compared {
     /// The answer that the history goes on with, if there is one.
     answer: Option<Answer>,
     reason: Option<Reason>,
-    /// How the answers differ, and what the boundaries part in.
+    /// Whether the answers differ, and how the boundaries part.
     differs: bool,
     parted: Option<String>,
 }
@@ -396,17 +396,26 @@ mod tests {
             let row = format!("| {} | {count} |", reason.text());
             assert!(counts.reasons().contains(&row));
         }
-        assert_eq!(counts.left_for(Reason::OtherRefusal), 0);
+        assert_eq!(counts.left_for(Reason::AddedRefusal), 0);
     }
 
-    /// A rule that the original lacks: noted events are refused with 31.
+    const NEW: u32 = 31;
+
+    /// A rule that the original lacks: noted events are refused.
     fn without_noted(call: &Call) -> Answer {
         match plain::answer(call) {
             Answer::Next { .. } if call.event.kind == NOTED => Answer::Refused {
-                number: 31,
+                number: NEW,
                 item: calls::NONE,
             },
             answer => answer,
+        }
+    }
+
+    fn new_refusal(call: &Call, plain: &Answer) -> Option<Reason> {
+        match plain {
+            Answer::Refused { number: NEW, .. } => Some(Reason::AddedRefusal),
+            _ => Reason::of(call, plain),
         }
     }
 
@@ -414,6 +423,7 @@ mod tests {
     fn a_refusal_that_the_original_lacks_leaves() {
         let mut comparison = Comparison {
             plain: without_noted,
+            reason: new_refusal,
             sides: vec![Side {
                 name: "the same",
                 answer: |call| Ok(without_noted(call)),
@@ -422,9 +432,13 @@ mod tests {
         };
         let (counts, differences) = comparison.seed(1, CALLS);
         assert_eq!(differences, 0);
-        assert!(counts.left_for(Reason::OtherRefusal) > 20);
+        assert!(counts.left_for(Reason::AddedRefusal) > 20);
         // A side that lacks the rule is found, though the original isn't asked.
         comparison.sides[0].answer = |call| Ok(plain::answer(call));
+        assert!(comparison.seed(1, CALLS).1 > 0);
+        // And so is the rule where no reason names it.
+        comparison.sides.clear();
+        comparison.reason = Reason::of;
         assert!(comparison.seed(1, CALLS).1 > 0);
     }
 
@@ -432,6 +446,7 @@ mod tests {
     fn a_difference_among_those_compared_is_found() {
         let comparison = Comparison {
             plain: without_noted,
+            reason: new_refusal,
             sides: vec![Side {
                 name: "another",
                 answer: |call| match without_noted(call) {
@@ -445,7 +460,7 @@ mod tests {
             ..plain()
         };
         let (counts, differences) = comparison.seed(1, CALLS);
-        assert!(counts.left_for(Reason::OtherRefusal) > 20);
+        assert!(counts.left_for(Reason::AddedRefusal) > 20);
         assert!(differences > 20);
     }
 
@@ -472,7 +487,7 @@ mod tests {
             reason: |call, plain| {
                 let accepted = matches!(plain, Answer::Next { .. }) && call.event.kind == NOTED;
                 match accepted {
-                    true => Some(Reason::OtherRefusal),
+                    true => Some(Reason::AddedRefusal),
                     false => Reason::of(call, plain),
                 }
             },
@@ -480,7 +495,7 @@ mod tests {
         };
         let (counts, differences) = comparison.seed(1, CALLS);
         assert_eq!(differences, 0);
-        assert!(counts.left_for(Reason::OtherRefusal) > 20);
+        assert!(counts.left_for(Reason::AddedRefusal) > 20);
         assert!(WENT_ON.load(Ordering::Relaxed) > 20);
     }
 

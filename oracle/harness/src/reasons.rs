@@ -1,8 +1,9 @@
 //! Why a call is not compared with the original.
 //!
-//! A rule that the original lacks gets a reason here, which names the calls that it concerns by what they hold and what the
-//! plain reading answers. Such a call is counted under its reason and compared between the other sides alone, and the history goes
-//! on with the plain reading's record.
+//! A rule that the original lacks is named here: a refusal's number in `ADDED`, or, where its number is one that the original has
+//! (a record that only the port refuses), a reason more, which tells the calls that it concerns by what they hold and what
+//! the plain reading answers. Such a call is counted under its reason and compared between the other sides alone, and the
+//! history goes on with the plain reading's record. All other calls are compared with the original.
 
 use calls::{layout, numbers, Answer, Call};
 
@@ -10,26 +11,24 @@ use calls::{layout, numbers, Answer, Call};
 pub enum Reason {
     CallNumber,
     RecordNumber,
-    OtherRefusal,
+    AddedRefusal,
 }
 
-/// The numbers of refusals that the original and what 01 adds to it have.
-const REFUSALS: [u32; 22] = [
-    1, 3, 5, 6, 7, 8, 9, 12, 14, 15, 16, 20, 21, 22, 23, 24, 25, 26, 27, 28, 29, 30,
-];
+/// Numbers of refusals that the original doesn't have.
+const ADDED: [u32; 0] = [];
 
 impl Reason {
     pub const ALL: [Reason; 3] = [
         Reason::CallNumber,
         Reason::RecordNumber,
-        Reason::OtherRefusal,
+        Reason::AddedRefusal,
     ];
 
     pub fn text(self) -> &'static str {
         match self {
             Reason::CallNumber => "a number of the call that its field can't hold",
             Reason::RecordNumber => "a number of the record that its field can't hold",
-            Reason::OtherRefusal => "refused with a number that the original doesn't have",
+            Reason::AddedRefusal => "refused with a number that the original doesn't have",
         }
     }
 
@@ -44,9 +43,7 @@ impl Reason {
             return Some(Reason::RecordNumber);
         }
         match plain {
-            Answer::Refused { number, .. } if !REFUSALS.contains(number) => {
-                Some(Reason::OtherRefusal)
-            }
+            Answer::Refused { number, .. } if ADDED.contains(number) => Some(Reason::AddedRefusal),
             _ => None,
         }
     }
@@ -56,7 +53,7 @@ impl Reason {
         match self {
             Reason::CallNumber => Some(layout::BAD_CALL as u32),
             Reason::RecordNumber => Some(layout::BAD_RECORD as u32),
-            Reason::OtherRefusal => None,
+            Reason::AddedRefusal => None,
         }
     }
 }
