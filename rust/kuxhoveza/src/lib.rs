@@ -42,7 +42,7 @@ pub type Call = [u64; layout::CALL];
 pub struct Record([u64; layout::RECORD]);
 
 impl Record {
-    /// The record that a host stored as the numbers of an accepted answer's record.
+    /// For a host that loads what it stored: the numbers of an accepted answer's record, never those of a want's.
     pub fn from_numbers(numbers: [u64; layout::RECORD]) -> Record {
         Record(numbers)
     }
@@ -138,7 +138,7 @@ pub struct Ending {
 }
 
 impl Report {
-    /// Of the numbers that the library writes into 32 bits' fields none is above.
+    /// A field of 32 bits: the library writes no more into it.
     fn small(&self, offset: usize) -> u32 {
         self.0[offset] as u32
     }
