@@ -1,8 +1,11 @@
+-- definitions
 pub mod Lowest
 pub mod Form
 pub mod Rules
 pub mod Sets
 pub mod Verdict
+-- laws
+pub mod Chain
 pub mod Accepted
 pub mod Bits
 pub mod Reach

@@ -1,6 +1,6 @@
 -- The lowest number that passes.
-use mathlib.Core.Path.{_≡_, refl, sym, _∙_, ap}
-use mathlib.Core.Bool.{Bool, true, false, false≢true}
+use mathlib.Core.Path.{_≡_, _∙_, ap}
+use mathlib.Core.Bool.{Bool, true, false}
 use Prim.Native.Nat.{ℕ, zero, suc, _+_, _≤_, _<_}
 use native.Mathlib.Omega.{arith}
 use lib.Dec.{eqb}
@@ -11,9 +11,9 @@ use Rattle.laws.specs.First.{first}
 use Rattle.workflow.specs.declared.Found.{Found}
 use Rattle.workflow.specs.declared.Found.the-variants.{At, Nothing}
 
--- the lowest number below k that passes
-abbrev pub lowest : ℕ → (ℕ → Bool) → Found
-lowest k p = first p (λ _ n. At n) Nothing 0 (span (λ n. n) 0 k)
+-- the lowest number below the count that passes
+abbrev pub lowest : (count : ℕ) → (passes : ℕ → Bool) → Found
+lowest count passes = first passes (λ _ number. At number) Nothing 0 (span (λ number. number) 0 count)
 
 -- What is found passes, and nothing below it does; what is not found does not pass.
 pub data Least (k : ℕ) (p : ℕ → Bool) (i : ℕ) : Found → Type 0 where

@@ -3,7 +3,7 @@ use mathlib.Core.Path.{_≡_, refl, sym, ap, _∙_}
 use mathlib.Core.Bool.{Bool, true, false, not, false≢true}
 use mathlib.Core.Logic.{⊎-elim}
 use mathlib.Core.List.{List, [], _∷_}
-use Prim.Native.Nat.{ℕ, zero, suc, _+_, _-_, _/_, _%_, _^_, _≤_, _<_, min}
+use Prim.Native.Nat.{ℕ, zero, suc, _+_, _-_, _/_, _%_, _^_, _≤_, _<_}
 use native.Mathlib.Nat.{pow-suc, div-eq-of-lt}
 use native.Mathlib.Omega.{arith}
 use lib.ListN.{length, getD, set, replicate, length-set, length-replicate}
@@ -16,18 +16,18 @@ use borrow.Author.Tests.{eq-eqb, ne-eqb, eqb-true, eqb-false, not-true}
 use Rattle.laws.specs.Bool.{if_then_else_, _and_, _or_, split, both, join, or-false}
 use Rattle.laws.specs.Rows.{span, span-more, span-none}
 use Rattle.laws.specs.In.{In, head, tail, in-span}
-use Rattle.workflow.specs.Code.{route-room, complete}
-use Rattle.workflow.specs.View.{Workflow, workflow, route-at}
+use Rattle.workflow.specs.Code.{complete}
+use Rattle.workflow.specs.View.{Workflow, workflow, route-at, route-rows}
 use Rattle.workflow.specs.Lookup.{node-of}
 use Rattle.workflow.specs.declared.Node.{Node}
 use Rattle.workflow.specs.declared.Route.{Route}
 use Rattle.workflow.specs.declared.Found.{Found}
 use Rattle.workflow.specs.declared.Found.the-variants.{At, Nothing}
-use Rattle.graph.specs.Sets.{has, mark, turned, closed, ends-of}
+use Rattle.graph.specs.Sets.{has, mark, turned, closed, with-ends}
 use Rattle.graph.specs.Bits.{has-suc, has-zero, has-none, has-or, has-and, has-mark, or-cases, or-left, or-right, lt-or-ge, same-set, Under, lacking, lacking-same}
 use Rattle.graph.specs.Lowest.{lowest, Least, is-least, is-none, least}
 use Rattle.graph.specs.Accepted.{Rules, inside, sound}
-use Rattle.graph.specs.Reach.{Chain, first, next, repeated-chained, closed-whole}
+use Rattle.graph.specs.Reach.{Trail, first, next, repeated-trails, closed-whole}
 
 -- The lowest number below the count that a set lacks.
 abbrev pub missing : (count set : ℕ) → Found
@@ -38,7 +38,7 @@ abbrev pub add-end : (set node kind : ℕ) → ℕ
 add-end s n k = if leb complete k then mark s n else s
 
 abbrev pub ends : Workflow → ℕ
-ends f = ends-of f (span (λ n. n) 0 (f .node-count)) 0
+ends f = with-ends f (span (λ n. n) 0 (f .node-count)) 0
 
 -- The masks with one route more, and with all of them: t is in the mask of n where a route leads from n to t.
 abbrev pub lead : (ms : List ℕ) → Route → List ℕ
@@ -143,12 +143,12 @@ module _ (k s : ℕ) (low : s < 2 ^ 64) (few : k ≤ 64) where
 
 -- ENDS, node by node.
 pub ends-more : (f : Workflow) (k i s : ℕ) → i < k → {x : Node} {t : ℕ} → x ≡ node-of f i → t ≡ add-end s i (x .kind)
-    → ends-of f (span (λ n. n) (i + 1) k) t ≡ ends-of f (span (λ n. n) i k) s
-unfolding ends-of
+    → with-ends f (span (λ n. n) (i + 1) k) t ≡ with-ends f (span (λ n. n) i k) s
+unfolding with-ends
 ends-more f k i s h e q = rw (q, e, span-more (λ n. n) i k h)
 
-pub ends-end : (f : Workflow) (k i s : ℕ) → k ≤ i → s ≡ ends-of f (span (λ n. n) i k) s
-unfolding ends-of
+pub ends-end : (f : Workflow) (k i s : ℕ) → k ≤ i → s ≡ with-ends f (span (λ n. n) i k) s
+unfolding with-ends
 ends-end f k i s h = rw (span-none (λ n. n) i k h)
 
 -- THE MASKS, route by route: x is the route at i, y the same turned, and m the bit of where it leads.
@@ -175,9 +175,9 @@ routes-within f r b x i =
     let l = sound f r .few-nodes in
     turned-within b 64 x (record { node = omega arith; target = omega arith })
 
-pub route-within : (w : List ℕ) → Rules (workflow w) → (b : Bool) (i : ℕ) → i < min route-room (getD w 5 0) → {x y : Route} → x ≡ route-at w i → y ≡ turned b x → Within 64 y
+pub route-within : (w : List ℕ) → Rules (workflow w) → (b : Bool) (i : ℕ) → i < route-rows w → {x y : Route} → x ≡ route-at w i → y ≡ turned b x → Within 64 y
 route-within w r b i h e q =
-    let k = min route-room (getD w 5 0) in
+    let k = route-rows w in
     rw (q, e) (routes-within (workflow w) r b (route-at w i) (in-span (route-at w) k 0 k i (omega arith) (omega arith) h))
 
 -- What a mask has: each route, and nothing that leads out of a set which no route leaves.
@@ -268,17 +268,17 @@ module _ (f : Workflow) (r : Rules f) (b : Bool) (s : ℕ) (low : s < 2 ^ f .nod
   fit : Fit b (f .routes) (replicate 64 0)
   fit x i = rw (length-replicate {A = ℕ} 64 0) (routes-within f r b x i .node)
 
-  chained : (n : ℕ) → has (closed f b s) n ≡ true → Chain b (f .routes) s n
-  chained n h = repeated-chained b (f .routes) s (f .node-count) s (λ m p. first p) n h
+  trails : (n : ℕ) → has (closed f b s) n ≡ true → Trail b (f .routes) s n
+  trails n h = repeated-trails b (f .routes) s (f .node-count) s (λ m p. first p) n h
 
-  chain-low : (n : ℕ) → Chain b (f .routes) s n → n < 64
-  chain-low n (first p) = omega (arith, has-low (f .node-count) s n low p, sound f r .few-nodes)
-  chain-low n (next {x} i c) = routes-within f r b x i .target
+  trail-low : (n : ℕ) → Trail b (f .routes) s n → n < 64
+  trail-low n (first p) = omega (arith, has-low (f .node-count) s n low p, sound f r .few-nodes)
+  trail-low n (next {x} i c) = routes-within f r b x i .target
 
   masks-within : (n : ℕ) → has (closed f b s) n ≡ true → Under (getD (masks f b) n 0) (closed f b s)
   unfolding masks
   masks-within =
-      leads-only b (closed f b s) (f .routes) (replicate 64 0) fit (λ x i h. closed-whole f r b s low _ (next i (chained _ h)))
+      leads-only b (closed f b s) (f .routes) (replicate 64 0) fit (λ x i h. closed-whole f r b s low _ (next i (trails _ h)))
       (λ n h t p. absurd (false≢true (sym (has-none t) ∙ ap (λ x. has x t) (sym (blank-mask 64 n)) ∙ p)))
 
   pub walk-start : Walk f b s s 0 s
@@ -312,13 +312,13 @@ module _ (f : Workflow) (r : Rules f) (b : Bool) (s : ℕ) (low : s < 2 ^ f .nod
     all-done : (n : ℕ) → has u n ≡ true → has d n ≡ true
     all-done n h =
         split (has d n) (λ p. p)
-        (λ p. absurd (false≢true (sym (has-none n) ∙ ap (λ y. has y n) (sym e) ∙ frontier-has v n (chain-low n (chained n (v .within n h))) ∙ join _ _ h (ap not p))))
+        (λ p. absurd (false≢true (sym (has-none n) ∙ ap (λ y. has y n) (sym e) ∙ frontier-has v n (trail-low n (trails n (v .within n h))) ∙ join _ _ h (ap not p))))
 
-    in-set : (n : ℕ) → Chain b (f .routes) s n → has u n ≡ true
+    in-set : (n : ℕ) → Trail b (f .routes) s n → has u n ≡ true
     unfolding masks
     in-set n (first p) = v .holds n p
     in-set n (next {x} i c) =
         v .whole (turned b x .node) (all-done _ (in-set _ c)) (turned b x .target) (leads-add b (f .routes) (replicate 64 0) fit i)
 
     pub walk-end : u ≡ closed f b s
-    walk-end = equal u (closed f b s) (v .within) (λ n h. in-set n (chained n h))
+    walk-end = equal u (closed f b s) (v .within) (λ n h. in-set n (trails n h))

@@ -8,79 +8,84 @@ use Rattle.laws.specs.First.{some}
 use Rattle.workflow.specs.Code.{failed, exhausted, activity, await-signal}
 use Rattle.workflow.specs.View.{Workflow}
 use Rattle.workflow.specs.Lookup.{is-0-2, node-of, policy-of, routed, is-declared, declares}
-use Rattle.workflow.specs.declared.Node.{Node}
 use Rattle.workflow.specs.declared.Route.{Route}
 use Rattle.workflow.specs.declared.Limit.{Limit}
-use Rattle.workflow.specs.declared.Action.{Action}
 use Rattle.workflow.specs.declared.Declared.{Declared}
 
 -- In 1 to the most.
-abbrev pub within : (most x : ℕ) → Bool
-within k x = ltb 0 x and leb x k
+abbrev pub within : (most number : ℕ) → Bool
+within most number = ltb 0 number and leb number most
 
 -- 1: params in format 1.
 abbrev pub breaks-1 : Workflow → (node : ℕ) → Bool
-breaks-1 f n = not (is-0-2 f) and eqb (node-of f n .«has_params») 1
+breaks-1 sheet node = not (is-0-2 sheet) and eqb (node-of sheet node .«has_params») 1
 
 -- 7: nothing declared, a reserved outcome declared, an outcome declared twice, or attempts out of range.
 abbrev pub of-action : (action : ℕ) → Declared → Bool
-of-action a x = eqb (x .action) a
+of-action action declared = eqb (declared .action) action
 
 unfoldable pub reserved : Workflow → (action : ℕ) → Declared → Bool
-reserved f a x = of-action a x and (eqb (x .outcome) failed or is-0-2 f and eqb (x .outcome) exhausted)
+reserved sheet action declared =
+    of-action action declared and (eqb (declared .outcome) failed or is-0-2 sheet and eqb (declared .outcome) exhausted)
 
 unfoldable pub declared-twice : (action : ℕ) → List Declared → Bool
-declared-twice a [] = false
-declared-twice a (x ∷ xs) = of-action a x and some (is-declared a (x .outcome)) xs or declared-twice a xs
+declared-twice action [] = false
+declared-twice action (declared ∷ later) =
+    of-action action declared and some (is-declared action (declared .outcome)) later or declared-twice action later
 
 unfoldable pub breaks-7 : Workflow → (max-attempts action : ℕ) → Bool
-breaks-7 f k a =
-    not (some (of-action a) (f .declared)) or some (reserved f a) (f .declared) or declared-twice a (f .declared)
-    or not (within k (policy-of f a .«max_attempts»))
+breaks-7 sheet max-attempts action =
+    not (some (of-action action) (sheet .declared)) or some (reserved sheet action) (sheet .declared) or declared-twice action (sheet .declared)
+    or not (within max-attempts (policy-of sheet action .«max_attempts»))
 
 -- 8: an activity whose action isn't there, that leaves a declared outcome unrouted, that routes another one, or that routes to no node.
 abbrev pub of-node : (node : ℕ) → Route → Bool
-of-node n x = eqb (x .node) n
+of-node node route = eqb (route .node) node
 
 unfoldable pub unrouted : Workflow → (node action : ℕ) → Declared → Bool
-unrouted f n a x = of-action a x and not (routed f n (x .outcome))
+unrouted sheet node action declared = of-action action declared and not (routed sheet node (declared .outcome))
 
 -- In format 2 a node routes exhausted only when it has loop limits.
 abbrev pub may-route-exhausted : Workflow → (node : ℕ) → Bool
-may-route-exhausted f n = is-0-2 f and eqb (node-of f n .«has_limits») 1
+may-route-exhausted sheet node = is-0-2 sheet and eqb (node-of sheet node .«has_limits») 1
 
 unfoldable pub extra : Workflow → (node action : ℕ) → Route → Bool
-extra f n a x = of-node n x and not (eqb (x .outcome) failed or eqb (x .outcome) exhausted and may-route-exhausted f n or declares f a (x .outcome))
+extra sheet node action route =
+    of-node node route
+    and not (eqb (route .outcome) failed or eqb (route .outcome) exhausted and may-route-exhausted sheet node or declares sheet action (route .outcome))
 
-unfoldable pub astray : Workflow → (node : ℕ) → Route → Bool
-astray f n x = of-node n x and leb (f .node-count) (x .target)
+unfoldable pub leads-nowhere : Workflow → (node : ℕ) → Route → Bool
+leads-nowhere sheet node route = of-node node route and leb (sheet .node-count) (route .target)
 
 unfoldable pub breaks-8 : Workflow → (node : ℕ) → Bool
-breaks-8 f n =
-    let a = node-of f n .action in
-    eqb (node-of f n .kind) activity
-    and (leb (f .action-count) a or some (unrouted f n a) (f .declared) or some (extra f n a) (f .routes) or some (astray f n) (f .routes))
+breaks-8 sheet node =
+    let action = node-of sheet node .action in
+    eqb (node-of sheet node .kind) activity
+    and (leb (sheet .action-count) action or some (unrouted sheet node action) (sheet .declared)
+    or some (extra sheet node action) (sheet .routes) or some (leads-nowhere sheet node) (sheet .routes))
 
 -- 9: an await-signal node without a route, that routes exhausted without loop limits, or that routes to no node.
 unfoldable pub breaks-9 : Workflow → (node : ℕ) → Bool
-breaks-9 f n =
-    eqb (node-of f n .kind) await-signal
-    and (not (some (of-node n) (f .routes)) or is-0-2 f and routed f n exhausted and not (may-route-exhausted f n) or some (astray f n) (f .routes))
+breaks-9 sheet node =
+    eqb (node-of sheet node .kind) await-signal
+    and (not (some (of-node node) (sheet .routes)) or is-0-2 sheet and routed sheet node exhausted and not (may-route-exhausted sheet node)
+    or some (leads-nowhere sheet node) (sheet .routes))
 
 -- 12: loop limits in format 1, none, one on exhausted or on an unrouted outcome, one that is 0 or not below maxVisitsPerNode, or exhausted not routed.
 abbrev pub limit-of-node : (node : ℕ) → Limit → Bool
-limit-of-node n x = eqb (x .node) n
+limit-of-node node limit = eqb (limit .node) node
 
 -- The original adds one and stays at 2^32 - 1.
-abbrev pub one-more : ℕ → ℕ
-one-more x = min (x + 1) (2 ^ 32 - 1)
+abbrev pub one-above : ℕ → ℕ
+one-above number = min (number + 1) (2 ^ 32 - 1)
 
 unfoldable pub bad-limit : Workflow → (node : ℕ) → Limit → Bool
-bad-limit f n x =
-    limit-of-node n x
-    and (eqb (x .outcome) exhausted or not (routed f n (x .outcome)) or eqb (x .limit) 0 or ltb (f .max-visits-per-node) (one-more (x .limit)))
+bad-limit sheet node limit =
+    limit-of-node node limit
+    and (eqb (limit .outcome) exhausted or not (routed sheet node (limit .outcome)) or eqb (limit .limit) 0
+    or ltb (sheet .max-visits-per-node) (one-above (limit .limit)))
 
 unfoldable pub breaks-12 : Workflow → (node : ℕ) → Bool
-breaks-12 f n =
-    eqb (node-of f n .«has_limits») 1
-    and (not (is-0-2 f) or not (some (limit-of-node n) (f .limits)) or some (bad-limit f n) (f .limits) or not (routed f n exhausted))
+breaks-12 sheet node =
+    eqb (node-of sheet node .«has_limits») 1
+    and (not (is-0-2 sheet) or not (some (limit-of-node node) (sheet .limits)) or some (bad-limit sheet node) (sheet .limits) or not (routed sheet node exhausted))

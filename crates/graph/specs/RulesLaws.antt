@@ -2,7 +2,7 @@
 use mathlib.Core.Path.{_≡_, refl, sym, _∙_, ap}
 use mathlib.Core.Bool.{Bool, true, false, not}
 use mathlib.Core.List.{List, [], _∷_}
-use Prim.Native.Nat.{ℕ, zero, suc, _+_, _-_, _≤_, _<_, min}
+use Prim.Native.Nat.{ℕ, zero, suc, _+_, _-_, _≤_, _<_}
 use native.Mathlib.Omega.{arith}
 use lib.ListN.{getD, length, set, replicate, length-set, length-replicate, getD-replicate}
 use lib.Seq.{getD-set-same, getD-set-other}
@@ -13,14 +13,17 @@ use Rattle.laws.specs.Rows.{span, span-more, span-none, at-span}
 use Rattle.laws.specs.First.{first, some, Seek, seek-start}
 use Rattle.laws.specs.Every.{every}
 use Rattle.laws.specs.In.{every-in, in-span}
-use Rattle.workflow.specs.Code.{none, node-room, route-room, limit-room, format-0-2, failed, exhausted, await-signal}
-use Rattle.workflow.specs.View.{Workflow, workflow, no-node, node-at, route-at, limit-at, declared-at}
-use Rattle.workflow.specs.Lookup.{found, is-0-2, node-of, policy-of, are, is-route, route-of, routed, is-declared, declares}
+use Rattle.workflow.specs.Code.{none, failed, exhausted, await-signal}
+use Rattle.workflow.specs.Layout.{node-room, route-room, limit-room}
+use Rattle.workflow.specs.Layout as layout
+use Rattle.workflow.specs.View.{Workflow, workflow, at, cell, no-node, node-at, route-at, limit-at, declared-at, node-rows, route-rows, limit-rows, declared-rows}
+use Rattle.workflow.specs.RowLaws.{route-row, limit-row, declared-row, found-first}
+use Rattle.workflow.specs.Lookup.{is-0-2, node-of, policy-of, are, is-route, route-of, routed, is-declared, declares}
 use Rattle.workflow.specs.declared.Found.the-variants.{At, Nothing}
 use Rattle.graph.specs.Lowest.{lowest}
-use Rattle.graph.specs.Form.{route-fits, limit-fits, declared-fits, form}
-use Rattle.graph.specs.Rules.{within, breaks-1, of-action, reserved, declared-twice, breaks-7, of-node, unrouted, may-route-exhausted, extra, astray, breaks-8, breaks-9, limit-of-node, one-more, bad-limit, breaks-12}
-use Rattle.graph.specs.SearchLaws.{Cut, cuts, the-cut, column, rows-below, Rising, ascending-rising, first-skip, first-none, form-sorted, parts-of, route-rows, limit-rows, declared-rows, route-row, limit-row, declared-row, routes-ascend, limits-ascend, declared-rise}
+use Rattle.graph.specs.Form.{formed-route, formed-limit, formed-declared, form}
+use Rattle.graph.specs.Rules.{within, breaks-1, of-action, reserved, declared-twice, breaks-7, of-node, unrouted, may-route-exhausted, extra, leads-nowhere, breaks-8, breaks-9, limit-of-node, one-above, bad-limit, breaks-12}
+use Rattle.graph.specs.SearchLaws.{Cut, cuts, the-cut, rows-below, Rising, ascending-rising, first-skip, first-none, form-sorted, parts-of, routes-ascend, limits-ascend, declared-rise}
 
 -- WHAT THE CONTRACTS CITE.
 -- Some number from a to b passes.
@@ -36,33 +39,33 @@ mark-all m [] = m
 mark-all m (x ∷ xs) = mark-all (set m x true) xs
 
 unfoldable pub marked : List ℕ → (start from to : ℕ) → List Bool
-marked w c a b = mark-all no-marks (span (column w c) a b)
+marked w c a b = mark-all no-marks (span (cell w c) a b)
 
 abbrev pub reserved-marks : (two : Bool) → List Bool
 reserved-marks t = set (set no-marks failed true) exhausted t
 
 -- The number is not marked; some number is marked, or stands in the list before.
 abbrev pub unmarked : List ℕ → (start : ℕ) → List Bool → (row : ℕ) → Bool
-unmarked w c m j = not (getD m (column w c j) false)
+unmarked w c m j = not (getD m (cell w c j) false)
 
 unfoldable pub again : List Bool → List ℕ → Bool
 again m [] = false
 again m (x ∷ xs) = getD m x false or again (set m x true) xs
 
 -- The target is no node.
-abbrev pub astray-at : List ℕ → (nodes row : ℕ) → Bool
-astray-at w k j = leb k (column w 1481 j)
+abbrev pub nowhere-at : List ℕ → (nodes row : ℕ) → Bool
+nowhere-at w k j = leb k (cell w layout.route-target j)
 
 -- A limit that is 0 or not below the most visits, or whose outcome is not marked.
 unfoldable pub out-of-range : (most limit : ℕ) → Bool
-out-of-range k x = eqb x 0 or ltb k (one-more x)
+out-of-range k x = eqb x 0 or ltb k (one-above x)
 
 abbrev pub bad-row : List ℕ → List Bool → (most row : ℕ) → Bool
-bad-row w m k j = unmarked w 2505 m j or out-of-range k (column w 3017 j)
+bad-row w m k j = unmarked w layout.limit-outcome m j or out-of-range k (cell w layout.limit-limit j)
 
 -- Parts of rules 8, 9 and 12, and the three by their number.
 unfoldable pub misroutes : Workflow → (node action : ℕ) → Bool
-misroutes f n a = some (unrouted f n a) (f .declared) or some (extra f n a) (f .routes) or some (astray f n) (f .routes)
+misroutes f n a = some (unrouted f n a) (f .declared) or some (extra f n a) (f .routes) or some (leads-nowhere f n) (f .routes)
 
 unfoldable pub routes-exhausted : Workflow → (node : ℕ) → Bool
 routes-exhausted f n = is-0-2 f and routed f n exhausted and not (may-route-exhausted f n)
@@ -75,8 +78,8 @@ breaks f r n = if eqb r 8 then breaks-8 f n else if eqb r 9 then breaks-9 f n el
 
 -- Numbers that have a mark.
 pub record Outcomes (w : List ℕ) (c a b : ℕ) : Type 0 where
-  pub fits : c + b ≤ 4169
-  pub small : (j : ℕ) → a ≤ j → j < b → column w c j < 256
+  pub fits : c + b ≤ layout.numbers
+  pub small : (j : ℕ) → a ≤ j → j < b → cell w c j < 256
 
 -- The rows of the key n stand from a to b.
 pub record Group (w : List ℕ) (c k n a b : ℕ) : Type 0 where
@@ -85,13 +88,13 @@ pub record Group (w : List ℕ) (c k n a b : ℕ) : Type 0 where
   pub to : b ≡ rows-below w c k (n + 1)
 
 abbrev pub Routes-of : List ℕ → (node from to : ℕ) → Type 0
-Routes-of w n a b = Group w 457 (route-rows w) n a b
+Routes-of w n a b = Group w layout.route-node (route-rows w) n a b
 
 abbrev pub Limits-of : List ℕ → (node from to : ℕ) → Type 0
-Limits-of w n a b = Group w 1993 (limit-rows w) n a b
+Limits-of w n a b = Group w layout.limit-node (limit-rows w) n a b
 
 abbrev pub Declared-of : List ℕ → (action from to : ℕ) → Type 0
-Declared-of w n a b = Group w 3657 (declared-rows w) n a b
+Declared-of w n a b = Group w layout.declared-action (declared-rows w) n a b
 
 -- A group by the count that the code has.
 pub the-group : {w : List ℕ} {c k k′ n a b : ℕ} → form (workflow w) ≡ true → k ≡ k′ → a ≡ rows-below w c k n → b ≡ rows-below w c k (n + 1) → Group w c k′ n a b
@@ -206,10 +209,10 @@ module _ (g : ℕ → ℕ) (b o : ℕ) where
       ∙ ap (λ r. r or some-in (i + 1) b (λ j. eqb (g j) o)) (mark-one m (g i) long (small i (omega arith) (omega arith)) o)
       ∙ or-swap (eqb (g i) o) (getD m o false) (some-in (i + 1) b (λ j. eqb (g j) o)))
 
-marked-has : (w : List ℕ) (c a b o : ℕ) → a ≤ b → Outcomes w c a b → o < 256 → getD (marked w c a b) o false ≡ some-in a b (λ j. eqb (column w c j) o)
+marked-has : (w : List ℕ) (c a b o : ℕ) → a ≤ b → Outcomes w c a b → o < 256 → getD (marked w c a b) o false ≡ some-in a b (λ j. eqb (cell w c j) o)
 unfolding marked _or_
 marked-has w c a b o l s h =
-    mark-has (column w c) b o (b - a) a no-marks (length-replicate 256 false) (omega arith) (s .small)
+    mark-has (cell w c) b o (b - a) a no-marks (length-replicate 256 false) (omega arith) (s .small)
     ∙ rw (getD-replicate 256 o false false h)
 
 mark-all-long : (m : List Bool) (xs : List ℕ) → length (mark-all m xs) ≡ length m
@@ -219,7 +222,7 @@ mark-all-long m (x ∷ xs) = mark-all-long (set m x true) xs ∙ length-set m x 
 
 marked-long : (w : List ℕ) (c a b : ℕ) → length (marked w c a b) ≡ 256
 unfolding marked
-marked-long w c a b = mark-all-long no-marks (span (column w c) a b) ∙ length-replicate 256 false
+marked-long w c a b = mark-all-long no-marks (span (cell w c) a b) ∙ length-replicate 256 false
 
 reserved-long : (t : Bool) → length (reserved-marks t) ≡ 256
 reserved-long t = length-set (set no-marks failed true) exhausted t ∙ length-set no-marks failed true ∙ length-replicate 256 false
@@ -228,7 +231,7 @@ reserved-long t = length-set (set no-marks failed true) exhausted t ∙ length-s
 pub record Marking (w : List ℕ) (c a b : ℕ) (m : List Bool) (i : ℕ) : Type 0 where
   pub start : a ≤ i
   pub long : length m ≡ 256
-  pub left : mark-all m (span (column w c) i b) ≡ marked w c a b
+  pub left : mark-all m (span (cell w c) i b) ≡ marked w c a b
 
 module _ {w : List ℕ} {c a b : ℕ} where
   pub marking-start : Marking w c a b no-marks a
@@ -236,47 +239,47 @@ module _ {w : List ℕ} {c a b : ℕ} where
   marking-start = record { start = omega arith; long = length-replicate 256 false; left = refl }
 
   module _ {m : List Bool} {i : ℕ} (inv : Marking w c a b m i) where
-    pub marking-next : i < b → Marking w c a b (set m (column w c i) true) (i + 1)
+    pub marking-next : i < b → Marking w c a b (set m (cell w c i) true) (i + 1)
     unfolding mark-all
     marking-next h =
         let s = inv .start in
         record {
           start = omega arith;
-          long = length-set m (column w c i) true ∙ inv .long;
-          left = rw (span-more (column w c) i b h) at (inv .left);
+          long = length-set m (cell w c i) true ∙ inv .long;
+          left = rw (span-more (cell w c) i b h) at (inv .left);
         }
 
     pub marking-end : b ≤ i → m ≡ marked w c a b
     unfolding mark-all
-    marking-end h = rw (span-none (column w c) i b h) at (inv .left)
+    marking-end h = rw (span-none (cell w c) i b h) at (inv .left)
 
 -- A loop that looks for a number that is marked already.
 pub record Again (w : List ℕ) (c a b : ℕ) (whole : Bool) (m : List Bool) (i : ℕ) : Type 0 where
   pub start : a ≤ i
   pub long : length m ≡ 256
-  pub left : again m (span (column w c) i b) ≡ whole
+  pub left : again m (span (cell w c) i b) ≡ whole
 
-pub again-start : {w : List ℕ} {c a b : ℕ} (t : Bool) → Again w c a b (again (reserved-marks t) (span (column w c) a b)) (reserved-marks t) a
+pub again-start : {w : List ℕ} {c a b : ℕ} (t : Bool) → Again w c a b (again (reserved-marks t) (span (cell w c) a b)) (reserved-marks t) a
 again-start t = record { start = omega arith; long = reserved-long t; left = refl }
 
 module _ {w : List ℕ} {c a b : ℕ} {whole : Bool} {m : List Bool} {i : ℕ} (inv : Again w c a b whole m i) where
-  pub again-hit : i < b → getD m (column w c i) false ≡ true → true ≡ whole
+  pub again-hit : i < b → getD m (cell w c i) false ≡ true → true ≡ whole
   unfolding again _or_
-  again-hit h t = rw (span-more (column w c) i b h, t) at (inv .left)
+  again-hit h t = rw (span-more (cell w c) i b h, t) at (inv .left)
 
-  pub again-miss : i < b → getD m (column w c i) false ≡ false → Again w c a b whole (set m (column w c i) true) (i + 1)
+  pub again-miss : i < b → getD m (cell w c i) false ≡ false → Again w c a b whole (set m (cell w c i) true) (i + 1)
   unfolding again _or_
   again-miss h t =
       let s = inv .start in
       record {
         start = omega arith;
-        long = length-set m (column w c i) true ∙ inv .long;
-        left = rw (span-more (column w c) i b h, t) at (inv .left);
+        long = length-set m (cell w c i) true ∙ inv .long;
+        left = rw (span-more (cell w c) i b h, t) at (inv .left);
       }
 
   pub again-end : b ≤ i → false ≡ whole
   unfolding again
-  again-end h = rw (span-none (column w c) i b h) at (inv .left)
+  again-end h = rw (span-none (cell w c) i b h) at (inv .left)
 
 -- OUTCOMES of rows that fit are small.
 small-at : {A : Type 0} (p : A → Bool) (o : A → ℕ) (f : ℕ → A) (k : ℕ) → ((x : A) → p x ≡ true → ltb (o x) none ≡ true) → every p (span f 0 k) ≡ true → (j : ℕ) → j < k → o (f j) < 256
@@ -285,34 +288,34 @@ small-at p o f k t e j h =
     omega arith
 
 module _ (w : List ℕ) (formed : form (workflow w) ≡ true) where
-  pub routes-rise : Rising w 457 (route-rows w)
+  pub routes-rise : Rising w layout.route-node (route-rows w)
   routes-rise = ascending-rising (routes-ascend w (form-sorted (workflow w) formed))
 
-  pub limits-rise : Rising w 1993 (limit-rows w)
+  pub limits-rise : Rising w layout.limit-node (limit-rows w)
   limits-rise = ascending-rising (limits-ascend w (form-sorted (workflow w) formed))
 
-  pub actions-rise : Rising w 3657 (declared-rows w)
+  pub actions-rise : Rising w layout.declared-action (declared-rows w)
   actions-rise = declared-rise w (form-sorted (workflow w) formed)
 
-  route-outcome : (j : ℕ) → j < route-rows w → column w 969 j < 256
-  unfolding route-fits
-  route-outcome j h = rw (route-row w j h) at (small-at (route-fits (workflow w)) (λ x. x .outcome) (route-at w) _ (λ x t. both _ _ t .1) (parts-of _ formed .routes-fit) j h)
+  route-outcome-small : (j : ℕ) → j < route-rows w → cell w layout.route-outcome j < 256
+  unfolding formed-route
+  route-outcome-small j h = rw (route-row w j h) at (small-at (formed-route (workflow w)) (λ x. x .outcome) (route-at w) _ (λ x t. both _ _ t .1) (parts-of _ formed .routes-fit) j h)
 
-  limit-outcome : (j : ℕ) → j < limit-rows w → column w 2505 j < 256
-  unfolding limit-fits
-  limit-outcome j h = rw (limit-row w j h) at (small-at (limit-fits (workflow w)) (λ x. x .outcome) (limit-at w) _ (λ x t. both _ _ (both _ _ t .1) .1) (parts-of _ formed .limits-fit) j h)
+  limit-outcome-small : (j : ℕ) → j < limit-rows w → cell w layout.limit-outcome j < 256
+  unfolding formed-limit
+  limit-outcome-small j h = rw (limit-row w j h) at (small-at (formed-limit (workflow w)) (λ x. x .outcome) (limit-at w) _ (λ x t. both _ _ (both _ _ t .1) .1) (parts-of _ formed .limits-fit) j h)
 
-  declared-outcome : (j : ℕ) → j < declared-rows w → column w 3913 j < 256
-  unfolding declared-fits
-  declared-outcome j h = rw (declared-row w j h) at (small-at (declared-fits (workflow w)) (λ x. x .outcome) (declared-at w) _ (λ x t. both _ _ t .1) (parts-of _ formed .declared-fit) j h)
+  declared-outcome-small : (j : ℕ) → j < declared-rows w → cell w layout.declared-outcome j < 256
+  unfolding formed-declared
+  declared-outcome-small j h = rw (declared-row w j h) at (small-at (formed-declared (workflow w)) (λ x. x .outcome) (declared-at w) _ (λ x t. both _ _ t .1) (parts-of _ formed .declared-fit) j h)
 
 -- THE ROWS OF A KEY.
 module _ {w : List ℕ} {c k n a b : ℕ} (rising : Rising w c k) (g : Group w c k n a b) where
-  low : Cut (λ j. ltb (column w c j) n) k a
+  low : Cut (λ j. ltb (cell w c j) n) k a
   unfolding rows-below
   low = rw (g .from) (cuts _ k)
 
-  high : Cut (λ j. ltb (column w c j) (n + 1)) k b
+  high : Cut (λ j. ltb (cell w c j) (n + 1)) k b
   unfolding rows-below
   high = rw (g .to) (cuts _ k)
 
@@ -322,30 +325,30 @@ module _ {w : List ℕ} {c k n a b : ℕ} (rising : Rising w c k) (g : Group w c
       (λ e.
       let l = ltb-true b a e in
       let v = low .within in
-      let x = ltb-true (column w c b) n (low .below b l) in
-      let y = ltb-false (column w c b) (n + 1) (high .fails (omega arith)) in
+      let x = ltb-true (cell w c b) n (low .below b l) in
+      let y = ltb-false (cell w c b) (n + 1) (high .fails (omega arith)) in
       absurd (omega arith))
       (λ e. ltb-false b a e)
 
-  inside : (j : ℕ) → a ≤ j → j < b → eqb (column w c j) n ≡ true
+  inside : (j : ℕ) → a ≤ j → j < b → eqb (cell w c j) n ≡ true
   inside j l h =
       let v = high .within in
-      let x = ltb-true (column w c j) (n + 1) (high .below j h) in
-      let y = ltb-false (column w c a) n (low .fails (omega arith)) in
+      let x = ltb-true (cell w c j) (n + 1) (high .below j h) in
+      let y = ltb-false (cell w c a) n (low .fails (omega arith)) in
       let z = rising .rise a j l (omega arith) in
-      eq-eqb (column w c j) n (omega arith)
+      eq-eqb (cell w c j) n (omega arith)
 
-  before : (j : ℕ) → j < a → eqb (column w c j) n ≡ false
-  before j h = let x = ltb-true (column w c j) n (low .below j h) in ne-eqb (column w c j) n (λ e. omega arith)
+  before : (j : ℕ) → j < a → eqb (cell w c j) n ≡ false
+  before j h = let x = ltb-true (cell w c j) n (low .below j h) in ne-eqb (cell w c j) n (λ e. omega arith)
 
-  after : (j : ℕ) → b ≤ j → j < k → eqb (column w c j) n ≡ false
+  after : (j : ℕ) → b ≤ j → j < k → eqb (cell w c j) n ≡ false
   after j l h =
-      let y = ltb-false (column w c b) (n + 1) (high .fails (omega arith)) in
+      let y = ltb-false (cell w c b) (n + 1) (high .fails (omega arith)) in
       let z = rising .rise b j l h in
-      ne-eqb (column w c j) n (λ e. omega arith)
+      ne-eqb (cell w c j) n (λ e. omega arith)
 
   -- rows that pass only where their key is n
-  narrow : {A : Type 0} (q : A → Bool) (f : ℕ → A) (s : ℕ → Bool) → ((j : ℕ) → j < k → q (f j) ≡ eqb (column w c j) n and s j) → some q (span f 0 k) ≡ some-in a b s
+  narrow : {A : Type 0} (q : A → Bool) (f : ℕ → A) (s : ℕ → Bool) → ((j : ℕ) → j < k → q (f j) ≡ eqb (cell w c j) n and s j) → some q (span f 0 k) ≡ some-in a b s
   unfolding _and_
   narrow q f s t =
       let u = ordered in
@@ -355,74 +358,69 @@ module _ {w : List ℕ} {c k n a b : ℕ} (rising : Rising w c k) (g : Group w c
       ∙ some-trim q f k s b v (λ j l h. t j h ∙ rw (after j l h)) (b - a) a (omega arith) (λ j l h. t j (omega arith) ∙ rw (inside j l h))
 
   -- some row has the key
-  any-in : {A : Type 0} (q : A → Bool) (f : ℕ → A) → ((j : ℕ) → j < k → q (f j) ≡ eqb (column w c j) n) → some q (span f 0 k) ≡ not (eqb a b)
+  any-in : {A : Type 0} (q : A → Bool) (f : ℕ → A) → ((j : ℕ) → j < k → q (f j) ≡ eqb (cell w c j) n) → some q (span f 0 k) ≡ not (eqb a b)
   unfolding _or_
   any-in q f t =
       let l = ordered in
-      narrow q f (λ _. true) (λ j h. t j h ∙ and-true (eqb (column w c j) n))
+      narrow q f (λ _. true) (λ j h. t j h ∙ and-true (eqb (cell w c j) n))
       ∙ split (eqb a b)
       (λ e. let z : a ≡ b = eqb-true a b e in rw (e, z) (none-in (λ _. true) b))
       (λ e. let d = eqb-false a b e in rw (e, more-in (λ _. true) a b (omega arith)))
 
-  part-small : (d : ℕ) → d + k ≤ 4169 → ((j : ℕ) → j < k → column w d j < 256) → Outcomes w d a b
+  part-small : (d : ℕ) → d + k ≤ layout.numbers → ((j : ℕ) → j < k → cell w d j < 256) → Outcomes w d a b
   part-small d l s = let v = high .within in record { fits = omega arith; small = λ j _ h. s j (omega arith) }
 
 -- The routes of a node.
-found-first : {A : Type 0} (p : A → Bool) (t : A → ℕ) (i : ℕ) (xs : List A) → found (first p (λ _ x. At (t x)) Nothing i xs) ≡ first p (λ _ _. true) false i xs
-unfolding first if_then_else_
-found-first p t i [] = refl
-found-first p t i (x ∷ xs) = split (p x) (λ h. rw h) (λ h. rw h (found-first p t (i + 1) xs))
-
 module _ {w : List ℕ} {n a b : ℕ} (g : Routes-of w n a b) where
-  routes-up : Rising w 457 (route-rows w)
+  routes-up : Rising w layout.route-node (route-rows w)
   routes-up = routes-rise w (g .formed)
 
   pub routes-end : b ≤ route-room
   routes-end = let v = high routes-up g .within in omega arith
 
-  pub routes-outcomes : Outcomes w 969 a b
-  routes-outcomes = part-small routes-up g 969 (omega arith) (route-outcome w (g .formed))
+  pub routes-outcomes : Outcomes w layout.route-outcome a b
+  routes-outcomes = part-small routes-up g layout.route-outcome (omega arith) (route-outcome-small w (g .formed))
 
-  pub routed-marked : (o : ℕ) → o < 256 → getD (marked w 969 a b) o false ≡ routed (workflow w) n o
+  pub routed-marked : (o : ℕ) → o < 256 → getD (marked w layout.route-outcome a b) o false ≡ routed (workflow w) n o
   unfolding route-of are
   routed-marked o h =
-      marked-has w 969 a b o (ordered routes-up g) routes-outcomes h
-      ∙ sym (found-first (is-route n o) (λ x. x .target) 0 (workflow w .routes) ∙ narrow routes-up g (is-route n o) (route-at w) (λ j. eqb (column w 969 j) o) (λ j l. rw (route-row w j l)))
+      marked-has w layout.route-outcome a b o (ordered routes-up g) routes-outcomes h
+      ∙ sym (found-first (is-route n o) (λ x. x .target) 0 (workflow w .routes) ∙ narrow routes-up g (is-route n o) (route-at w) (λ j. eqb (cell w layout.route-outcome j) o) (λ j l. rw (route-row w j l)))
 
   routes-any : some (of-node n) (workflow w .routes) ≡ not (eqb a b)
   routes-any = any-in routes-up g (of-node n) (route-at w) (λ j l. rw (route-row w j l))
 
-  pub astray-in : some (astray (workflow w) n) (workflow w .routes) ≡ some-in a b (astray-at w (getD w 4 0))
-  unfolding astray
-  astray-in = narrow routes-up g (astray (workflow w) n) (route-at w) (astray-at w (getD w 4 0)) (λ j l. rw (route-row w j l))
+  pub nowhere-in : some (leads-nowhere (workflow w) n) (workflow w .routes) ≡ some-in a b (nowhere-at w (at w layout.node-count))
+  unfolding leads-nowhere
+  nowhere-in = narrow routes-up g (leads-nowhere (workflow w) n) (route-at w) (nowhere-at w (at w layout.node-count)) (λ j l. rw (route-row w j l))
 
 -- The loop limits of a node.
 module _ {w : List ℕ} {n a b : ℕ} (g : Limits-of w n a b) where
-  limits-up : Rising w 1993 (limit-rows w)
+  limits-up : Rising w layout.limit-node (limit-rows w)
   limits-up = limits-rise w (g .formed)
 
   pub limits-end : b ≤ limit-room
   limits-end = let v = high limits-up g .within in omega arith
 
-  pub limits-outcomes : Outcomes w 2505 a b
-  limits-outcomes = part-small limits-up g 2505 (omega arith) (limit-outcome w (g .formed))
+  pub limits-outcomes : Outcomes w layout.limit-outcome a b
+  limits-outcomes = part-small limits-up g layout.limit-outcome (omega arith) (limit-outcome-small w (g .formed))
 
   pub limits-any : some (limit-of-node n) (workflow w .limits) ≡ not (eqb a b)
   limits-any = any-in limits-up g (limit-of-node n) (limit-at w) (λ j l. rw (limit-row w j l))
 
 -- The outcomes that an action declares.
 module _ {w : List ℕ} {n a b : ℕ} (g : Declared-of w n a b) where
-  declared-up : Rising w 3657 (declared-rows w)
+  declared-up : Rising w layout.declared-action (declared-rows w)
   declared-up = actions-rise w (g .formed)
 
-  pub declared-outcomes : Outcomes w 3913 a b
-  declared-outcomes = part-small declared-up g 3913 (omega arith) (declared-outcome w (g .formed))
+  pub declared-outcomes : Outcomes w layout.declared-outcome a b
+  declared-outcomes = part-small declared-up g layout.declared-outcome (omega arith) (declared-outcome-small w (g .formed))
 
-  declares-marked : (o : ℕ) → o < 256 → getD (marked w 3913 a b) o false ≡ declares (workflow w) n o
+  declares-marked : (o : ℕ) → o < 256 → getD (marked w layout.declared-outcome a b) o false ≡ declares (workflow w) n o
   unfolding declares are
   declares-marked o h =
-      marked-has w 3913 a b o (ordered declared-up g) declared-outcomes h
-      ∙ sym (narrow declared-up g (is-declared n o) (declared-at w) (λ j. eqb (column w 3913 j) o) (λ j l. rw (declared-row w j l)))
+      marked-has w layout.declared-outcome a b o (ordered declared-up g) declared-outcomes h
+      ∙ sym (narrow declared-up g (is-declared n o) (declared-at w) (λ j. eqb (cell w layout.declared-outcome j) o) (λ j l. rw (declared-row w j l)))
 
   declared-any : some (of-action n) (workflow w .declared) ≡ not (eqb a b)
   declared-any = any-in declared-up g (of-action n) (declared-at w) (λ j l. rw (declared-row w j l))
@@ -436,24 +434,24 @@ pub walk-start : {B : Type 0} {p : ℕ → Bool} {v : ℕ → ℕ → B} {e : B}
 unfolding rows-below
 walk-start {w = w} {c = c} {k = k} =
     record {
-      place = the-cut (record { within = omega arith; below = λ j h. absurd (omega arith); fails = λ h. le-ltb (column w c 0) 0 (omega arith) });
+      place = the-cut (record { within = omega arith; below = λ j h. absurd (omega arith); fails = λ h. le-ltb (cell w c 0) 0 (omega arith) });
       seek = seek-start;
     }
 
 -- RULE 1.
 module _ (w : List ℕ) where
-  params-at : (i : ℕ) → i < min node-room (getD w 4 0) → node-of (workflow w) i .«has_params» ≡ column w 137 i
+  params-at : (i : ℕ) → i < node-rows w → node-of (workflow w) i .«has_params» ≡ cell w layout.node-has-params i
   unfolding node-of node-at
   params-at i h = sym (ap (λ x. x .«has_params») (at-span (node-at w) _ i no-node h (sym (if-true _ _ _ (lt-ltb i node-room (omega arith))))))
 
-  pub with-params : (i : ℕ) → i < min node-room (getD w 4 0) → (getD w 0 0 ≡ format-0-2 → ⊥) → eqb (column w 137 i) 1 ≡ breaks-1 (workflow w) i
+  pub with-params : (i : ℕ) → i < node-rows w → is-0-2 (workflow w) ≡ false → eqb (cell w layout.node-has-params i) 1 ≡ breaks-1 (workflow w) i
   unfolding _and_
-  with-params i h f = rw (params-at i h, ne-eqb (getD w 0 0) format-0-2 f)
+  with-params i h f = rw (params-at i h, f)
 
-  pub no-params : getD w 0 0 ≡ format-0-2 → Nothing ≡ lowest (getD w 4 0) (breaks-1 (workflow w))
+  pub no-params : is-0-2 (workflow w) ≡ true → Nothing ≡ lowest (at w layout.node-count) (breaks-1 (workflow w))
   unfolding _and_
   no-params e =
-      first-none (breaks-1 (workflow w)) (λ _ n. At n) Nothing (λ n. n) (getD w 4 0) (λ _. false) (λ j h. rw (eq-eqb (getD w 0 0) format-0-2 e)) {c = getD w 4 0}
+      first-none (breaks-1 (workflow w)) (λ _ n. At n) Nothing (λ n. n) (at w layout.node-count) (λ _. false) (λ j h. rw e) {c = at w layout.node-count}
       (the-cut (record { within = omega arith; below = λ j h. refl; fails = λ h. absurd (omega arith) }))
       (omega arith)
 
@@ -496,17 +494,17 @@ reserved-has t o h =
     (λ e. rw e (split (eqb o failed) (λ i. rw i) (λ i. rw i (split t (λ u. rw u) (λ u. rw u))))))
 
 module _ {w : List ℕ} {n a b : ℕ} (g : Declared-of w n a b) where
-  reserved-in : some (reserved (workflow w) n) (workflow w .declared) ≡ some-in a b (λ j. getD (reserved-marks (is-0-2 (workflow w))) (column w 3913 j) false)
+  reserved-in : some (reserved (workflow w) n) (workflow w .declared) ≡ some-in a b (λ j. getD (reserved-marks (is-0-2 (workflow w))) (cell w layout.declared-outcome j) false)
   unfolding reserved
   reserved-in =
       narrow (declared-up g) g (reserved (workflow w) n) (declared-at w) _
-      (λ j l. rw (declared-row w j l, reserved-has (is-0-2 (workflow w)) (column w 3913 j) (declared-outcome w (g .formed) j l)))
+      (λ j l. rw (declared-row w j l, reserved-has (is-0-2 (workflow w)) (cell w layout.declared-outcome j) (declared-outcome-small w (g .formed) j l)))
 
-  of-row : (j : ℕ) → j < declared-rows w → of-action n (declared-at w j) ≡ eqb (column w 3657 j) n
+  of-row : (j : ℕ) → j < declared-rows w → of-action n (declared-at w j) ≡ eqb (cell w layout.declared-action j) n
   of-row j h = rw (declared-row w j h)
 
   -- rows of other actions
-  twice-skip : (m i : ℕ) → i + m ≤ declared-rows w → ((j : ℕ) → i ≤ j → j < i + m → eqb (column w 3657 j) n ≡ false)
+  twice-skip : (m i : ℕ) → i + m ≤ declared-rows w → ((j : ℕ) → i ≤ j → j < i + m → eqb (cell w layout.declared-action j) n ≡ false)
       → declared-twice n (span (declared-at w) i (declared-rows w)) ≡ declared-twice n (span (declared-at w) (i + m) (declared-rows w))
   unfolding declared-twice _and_ _or_
   twice-skip zero i h t =
@@ -518,31 +516,31 @@ module _ {w : List ℕ} {n a b : ℕ} (g : Declared-of w n a b) where
       (twice-skip m (i + 1) (omega arith) (λ j l k. t j (omega arith) (omega arith)))
 
   -- an outcome is declared from i on
-  again-in : (o i : ℕ) → a ≤ i → i ≤ b → some (is-declared n o) (span (declared-at w) i (declared-rows w)) ≡ some (λ y. eqb y o) (span (column w 3913) i b)
+  again-in : (o i : ℕ) → a ≤ i → i ≤ b → some (is-declared n o) (span (declared-at w) i (declared-rows w)) ≡ some (λ y. eqb y o) (span (cell w layout.declared-outcome) i b)
   unfolding are _and_
   again-in o i l h =
       let v = high (declared-up g) g .within in
-      some-trim (is-declared n o) (declared-at w) (declared-rows w) (λ j. eqb (column w 3913 j) o) b v
+      some-trim (is-declared n o) (declared-at w) (declared-rows w) (λ j. eqb (cell w layout.declared-outcome j) o) b v
       (λ j k u. rw (declared-row w j u, after (declared-up g) g j k u))
       (b - i)
       i
       (omega arith)
       (λ j k u. rw (declared-row w j (omega arith), inside (declared-up g) g j (omega arith) u))
-      ∙ sym (some-of (column w 3913) b (λ y. eqb y o) (b - i) i (omega arith))
+      ∙ sym (some-of (cell w layout.declared-outcome) b (λ y. eqb y o) (b - i) i (omega arith))
 
-  twice-trim : (d i : ℕ) → a ≤ i → b ≡ i + d → declared-twice n (span (declared-at w) i (declared-rows w)) ≡ twice (span (column w 3913) i b)
+  twice-trim : (d i : ℕ) → a ≤ i → b ≡ i + d → declared-twice n (span (declared-at w) i (declared-rows w)) ≡ twice (span (cell w layout.declared-outcome) i b)
   unfolding declared-twice twice _and_
   twice-trim zero i l e =
       let v = high (declared-up g) g .within in
       let z : i + (declared-rows w - i) ≡ declared-rows w = omega arith in
       let y : b ≡ i = omega arith in
       twice-skip (declared-rows w - i) i (omega arith) (λ j k h. after (declared-up g) g j (omega arith) (omega arith))
-      ∙ rw (z, span-none (declared-at w) (declared-rows w) (declared-rows w) (omega arith), y, span-none (column w 3913) i i (omega arith))
+      ∙ rw (z, span-none (declared-at w) (declared-rows w) (declared-rows w) (omega arith), y, span-none (cell w layout.declared-outcome) i i (omega arith))
   twice-trim (suc d) i l e =
       let v = high (declared-up g) g .within in
-      rw (span-more (declared-at w) i (declared-rows w) (omega arith), span-more (column w 3913) i b (omega arith), of-row i (omega arith), inside (declared-up g) g i l (omega arith), twice-trim d (i + 1) (omega arith) (omega arith), declared-row w i (omega arith), again-in (column w 3913 i) (i + 1) (omega arith) (omega arith))
+      rw (span-more (declared-at w) i (declared-rows w) (omega arith), span-more (cell w layout.declared-outcome) i b (omega arith), of-row i (omega arith), inside (declared-up g) g i l (omega arith), twice-trim d (i + 1) (omega arith) (omega arith), declared-row w i (omega arith), again-in (cell w layout.declared-outcome i) (i + 1) (omega arith) (omega arith))
 
-  twice-in : declared-twice n (workflow w .declared) ≡ twice (span (column w 3913) a b)
+  twice-in : declared-twice n (workflow w .declared) ≡ twice (span (cell w layout.declared-outcome) a b)
   twice-in =
       let v = high (declared-up g) g .within in
       let u = ordered (declared-up g) g in
@@ -551,13 +549,13 @@ module _ {w : List ℕ} {n a b : ℕ} (g : Declared-of w n a b) where
       ∙ twice-trim (b - a) a (omega arith) (omega arith)
 
   -- a reserved outcome, or one that is declared twice
-  again-declared : again (reserved-marks (is-0-2 (workflow w))) (span (column w 3913) a b) ≡ some (reserved (workflow w) n) (workflow w .declared) or declared-twice n (workflow w .declared)
+  again-declared : again (reserved-marks (is-0-2 (workflow w))) (span (cell w layout.declared-outcome) a b) ≡ some (reserved (workflow w) n) (workflow w .declared) or declared-twice n (workflow w .declared)
   again-declared =
       let u = ordered (declared-up g) g in
-      again-is (column w 3913) b (b - a) a (reserved-marks (is-0-2 (workflow w))) (reserved-long (is-0-2 (workflow w))) (omega arith) (declared-outcomes g .small)
+      again-is (cell w layout.declared-outcome) b (b - a) a (reserved-marks (is-0-2 (workflow w))) (reserved-long (is-0-2 (workflow w))) (omega arith) (declared-outcomes g .small)
       ∙ rw (reserved-in, twice-in)
 
-  pub breaks-7-at : (k : ℕ) → breaks-7 (workflow w) k n ≡ eqb a b or again (reserved-marks (is-0-2 (workflow w))) (span (column w 3913) a b) or not (within k (policy-of (workflow w) n .«max_attempts»))
+  pub breaks-7-at : (k : ℕ) → breaks-7 (workflow w) k n ≡ eqb a b or again (reserved-marks (is-0-2 (workflow w))) (span (cell w layout.declared-outcome) a b) or not (within k (policy-of (workflow w) n .«max_attempts»))
   unfolding breaks-7
   breaks-7-at k = rw (declared-any g, not-not (eqb a b), again-declared, or-assoc _ _ _)
 
@@ -573,23 +571,23 @@ known-has m e o long =
     (split (eqb o exhausted) (λ h. let z : o ≡ exhausted = eqb-true o exhausted h in rw z) (λ h. rw h (split (eqb o failed) (λ i. rw i) (λ i. rw i))))
 
 module _ {w : List ℕ} {n a b : ℕ} (g : Routes-of w n a b) {x p q : ℕ} (d : Declared-of w x p q) where
-  pub unrouted-in : some (unrouted (workflow w) n x) (workflow w .declared) ≡ some-in p q (unmarked w 3913 (marked w 969 a b))
+  pub unrouted-in : some (unrouted (workflow w) n x) (workflow w .declared) ≡ some-in p q (unmarked w layout.declared-outcome (marked w layout.route-outcome a b))
   unfolding unrouted
   unrouted-in =
       narrow (declared-up d) d (unrouted (workflow w) n x) (declared-at w) _
-      (λ j l. rw (declared-row w j l, routed-marked g (column w 3913 j) (declared-outcome w (d .formed) j l)))
+      (λ j l. rw (declared-row w j l, routed-marked g (cell w layout.declared-outcome j) (declared-outcome-small w (d .formed) j l)))
 
-  pub extra-in : some (extra (workflow w) n x) (workflow w .routes) ≡ some-in a b (unmarked w 969 (known (marked w 3913 p q) (may-route-exhausted (workflow w) n)))
+  pub extra-in : some (extra (workflow w) n x) (workflow w .routes) ≡ some-in a b (unmarked w layout.route-outcome (known (marked w layout.declared-outcome p q) (may-route-exhausted (workflow w) n)))
   unfolding extra
   extra-in =
       narrow (routes-up g) g (extra (workflow w) n x) (route-at w) _
-      (λ j l. rw (route-row w j l, known-has (marked w 3913 p q) (may-route-exhausted (workflow w) n) (column w 969 j) (marked-long w 3913 p q), declares-marked d (column w 969 j) (route-outcome w (g .formed) j l)))
+      (λ j l. rw (route-row w j l, known-has (marked w layout.declared-outcome p q) (may-route-exhausted (workflow w) n) (cell w layout.route-outcome j) (marked-long w layout.declared-outcome p q), declares-marked d (cell w layout.route-outcome j) (route-outcome-small w (g .formed) j l)))
 
 -- RULE 9.
 pub breaks-9-at : {w : List ℕ} {n a b : ℕ} → Routes-of w n a b
-    → breaks-9 (workflow w) n ≡ eqb (node-of (workflow w) n .kind) await-signal and (eqb a b or routes-exhausted (workflow w) n or some-in a b (astray-at w (getD w 4 0)))
+    → breaks-9 (workflow w) n ≡ eqb (node-of (workflow w) n .kind) await-signal and (eqb a b or routes-exhausted (workflow w) n or some-in a b (nowhere-at w (at w layout.node-count)))
 unfolding breaks-9 routes-exhausted
-breaks-9-at {a = a} {b = b} g = rw (routes-any g, not-not (eqb a b), astray-in g)
+breaks-9-at {a = a} {b = b} g = rw (routes-any g, not-not (eqb a b), nowhere-in g)
 
 -- RULE 12. The marks but for exhausted.
 unlike : (m : List Bool) (o : ℕ) → length m ≡ 256 → not (getD (set m exhausted false) o false) ≡ eqb o exhausted or not (getD m o false)
@@ -597,7 +595,7 @@ unfolding if_then_else_ _or_
 unlike m o long = rw (mark-at m exhausted false long (omega arith) o) (split (eqb o exhausted) (λ h. rw h) (λ h. rw h))
 
 -- With the marks m that the code has, exhausted is routed, or not.
-module _ {w : List ℕ} {n a b : ℕ} (g : Routes-of w n a b) {m : List Bool} (e : m ≡ marked w 969 a b) where
+module _ {w : List ℕ} {n a b : ℕ} (g : Routes-of w n a b) {m : List Bool} (e : m ≡ marked w layout.route-outcome a b) where
   by-mark : {t : Bool} → getD m exhausted false ≡ t → routed (workflow w) n exhausted ≡ t
   by-mark h = sym (routed-marked g exhausted (omega arith)) ∙ (rw e at h)
 
@@ -606,12 +604,12 @@ module _ {w : List ℕ} {n a b : ℕ} (g : Routes-of w n a b) {m : List Bool} (e
   exhausted-unrouted h = rw (by-mark h) (or-true _)
 
   module _ {p q : ℕ} (l : Limits-of w n p q) where
-    bad-limit-in : some (bad-limit (workflow w) n) (workflow w .limits) ≡ some-in p q (bad-row w (set (marked w 969 a b) exhausted false) (getD w 2 0))
+    bad-limit-in : some (bad-limit (workflow w) n) (workflow w .limits) ≡ some-in p q (bad-row w (set (marked w layout.route-outcome a b) exhausted false) (at w layout.max-visits-per-node))
     unfolding bad-limit out-of-range
     bad-limit-in =
         narrow (limits-up l) l (bad-limit (workflow w) n) (limit-at w) _
-        (λ j h. rw (limit-row w j h, unlike (marked w 969 a b) (column w 2505 j) (marked-long w 969 a b), routed-marked g (column w 2505 j) (limit-outcome w (l .formed) j h), or-assoc (eqb (column w 2505 j) exhausted)))
+        (λ j h. rw (limit-row w j h, unlike (marked w layout.route-outcome a b) (cell w layout.limit-outcome j) (marked-long w layout.route-outcome a b), routed-marked g (cell w layout.limit-outcome j) (limit-outcome-small w (l .formed) j h), or-assoc (eqb (cell w layout.limit-outcome j) exhausted)))
 
-    pub exhausted-routed : {t : Bool} → getD m exhausted false ≡ true → t ≡ some-in p q (bad-row w (set m exhausted false) (getD w 2 0)) → t ≡ misses (workflow w) n
+    pub exhausted-routed : {t : Bool} → getD m exhausted false ≡ true → t ≡ some-in p q (bad-row w (set m exhausted false) (at w layout.max-visits-per-node)) → t ≡ misses (workflow w) n
     unfolding misses
     exhausted-routed h t = rw e at t ∙ sym bad-limit-in ∙ rw (by-mark h) (or-false _)

@@ -2,20 +2,18 @@
 use mathlib.Core.Path.{_≡_, sym, _∙_, ap}
 use mathlib.Core.Bool.{Bool, true, false, not, false≢true}
 use mathlib.Core.List.{List}
-use Prim.Native.Nat.{ℕ, zero, suc, _+_, _-_, _≤_, _<_, min}
+use Prim.Native.Nat.{ℕ, zero, suc, _+_, _-_, _≤_, _<_}
 use native.Mathlib.Omega.{arith}
-use lib.ListN.{getD}
 use lib.Dec.{ltb, leb, eqb}
-use borrow.Author.Tests.{eq-eqb, eqb-true, eqb-false, not-true, not-false, ltb-true, ltb-false, leb-true, lt-ltb, le-ltb, le-leb, ne-eqb}
-use Rattle.laws.specs.Bool.{if_then_else_, _and_, _or_, split, both, if-true}
+use borrow.Author.Tests.{eq-eqb, eqb-true, eqb-false, not-true, ltb-true, ltb-false, leb-true, lt-ltb, le-ltb, le-leb}
+use Rattle.laws.specs.Bool.{if_then_else_, _and_, _or_, split, both}
 use Rattle.laws.specs.Rows.{span, span-more, span-none}
 use Rattle.laws.specs.First.{first}
 use Rattle.laws.specs.Every.{every}
-use Rattle.workflow.specs.Code.{node-room, route-room, limit-room, action-room, declared-room}
-use Rattle.workflow.specs.View.{Workflow, workflow, route-at, limit-at, declared-at}
-use Rattle.workflow.specs.Lookup.{are, route-of, limit-of}
-use Rattle.workflow.specs.declared.Found.the-variants.{At, Nothing}
-use Rattle.graph.specs.Form.{route-fits, limit-fits, declared-fits, chained-from, chained, ascends, route-before, limit-before, declared-before, form}
+use Rattle.workflow.specs.Layout as layout
+use Rattle.workflow.specs.View.{Workflow, workflow, cell, route-rows, limit-rows, declared-rows}
+use Rattle.graph.specs.Form.{formed-route, formed-limit, formed-declared, chained-from, chained, ascends, ascending, rising, form}
+use Rattle.graph.specs.FormLaws.{rows-ascend, rows-rise, routes-ascending, limits-ascending, declared-rising}
 
 -- THE CUT: the lowest number below k that fails, or k.
 cut-from : (ℕ → Bool) → (i m : ℕ) → ℕ
@@ -108,10 +106,10 @@ ascended n o n′ o′ e =
     split (ltb n n′) (λ h. by-node (ltb-true n n′ h))
     (λ h. let g : eqb n n′ and ltb o o′ ≡ true = rw h at e in let f = both _ _ g in by-outcome (eqb-true n n′ (f .0)) (ltb-true o o′ (f .1)))
 
-ascending : {n o n′ o′ : ℕ} → Ascends n o n′ o′ → ascends n o n′ o′ ≡ true
+by-ascends : {n o n′ o′ : ℕ} → Ascends n o n′ o′ → ascends n o n′ o′ ≡ true
 unfolding ascends _or_ _and_
-ascending {n} {o} {n′} {o′} (by-node h) = rw (lt-ltb n n′ h)
-ascending {n} {o} {n′} {o′} (by-outcome e h) = rw (le-ltb n n′ (omega arith), eq-eqb n n′ e, lt-ltb o o′ h)
+by-ascends {n} {o} {n′} {o′} (by-node h) = rw (lt-ltb n n′ h)
+by-ascends {n} {o} {n′} {o′} (by-outcome e h) = rw (le-ltb n n′ (omega arith), eq-eqb n n′ e, lt-ltb o o′ h)
 
 both-ascend : {a b c d x y : ℕ} → Ascends a b c d → Ascends c d x y → Ascends a b x y
 both-ascend (by-node h) (by-node g) = by-node (omega arith)
@@ -120,7 +118,7 @@ both-ascend (by-outcome e h) (by-node g) = by-node (omega arith)
 both-ascend (by-outcome e h) (by-outcome f g) = by-outcome (omega arith) (omega arith)
 
 ascends-on : (a b c d x y : ℕ) → ascends a b c d ≡ true → ascends c d x y ≡ true → ascends a b x y ≡ true
-ascends-on a b c d x y e f = ascending (both-ascend (ascended a b c d e) (ascended c d x y f))
+ascends-on a b c d x y e f = by-ascends (both-ascend (ascended a b c d e) (ascended c d x y f))
 
 leb-on : (a b c : ℕ) → leb a b ≡ true → leb b c ≡ true → leb a c ≡ true
 leb-on a b c e f =
@@ -157,32 +155,29 @@ module _ {A : Type 0} (r : A → A → Bool) (f : ℕ → A) (k : ℕ) where
         let z : j ≡ i + suc (j - (i + 1)) = omega arith in
         rw z (far (j - (i + 1)) i (omega arith))
 
--- THE COLUMNS OF A SHEET.
-abbrev pub column : List ℕ → (start slot : ℕ) → ℕ
-column w c j = getD w (c + j) 0
-
+-- ROWS BY COLUMN.
 -- The number of rows before a pair, and before a key.
 unfoldable pub rows-before : List ℕ → (major minor count x y : ℕ) → ℕ
-rows-before w a b k x y = cut (λ j. ascends (column w a j) (column w b j) x y) k
+rows-before w a b k x y = cut (λ j. ascends (cell w a j) (cell w b j) x y) k
 
 unfoldable pub rows-below : List ℕ → (start count key : ℕ) → ℕ
-rows-below w c k n = cut (λ j. ltb (column w c j) n) k
+rows-below w c k n = cut (λ j. ltb (cell w c j) n) k
 
 -- What a search for a pair needs: the rows before it stand first.
 pub record Halved (w : List ℕ) (a b k x y : ℕ) : Type 0 where
-  pub major-fits : a + k ≤ 4169
-  pub minor-fits : b + k ≤ 4169
-  pub falls : Falling (λ j. ascends (column w a j) (column w b j) x y) k
+  pub major-fits : a + k ≤ layout.numbers
+  pub minor-fits : b + k ≤ layout.numbers
+  pub falls : Falling (λ j. ascends (cell w a j) (cell w b j) x y) k
 
 -- Pairs that ascend strictly, and numbers that do not fall.
 pub record Ascending (w : List ℕ) (a b k : ℕ) : Type 0 where
-  pub major-fits : a + k ≤ 4169
-  pub minor-fits : b + k ≤ 4169
-  pub ascend : (i j : ℕ) → i < j → j < k → ascends (column w a i) (column w b i) (column w a j) (column w b j) ≡ true
+  pub major-fits : a + k ≤ layout.numbers
+  pub minor-fits : b + k ≤ layout.numbers
+  pub ascend : (i j : ℕ) → i < j → j < k → ascends (cell w a i) (cell w b i) (cell w a j) (cell w b j) ≡ true
 
 pub record Rising (w : List ℕ) (c k : ℕ) : Type 0 where
-  pub fits : c + k ≤ 4169
-  pub rise : (i j : ℕ) → i ≤ j → j < k → column w c i ≤ column w c j
+  pub fits : c + k ≤ layout.numbers
+  pub rise : (i j : ℕ) → i ≤ j → j < k → cell w c i ≤ cell w c j
 
 -- at two places of which one is not after the other
 at-or-before : {A : Type 0} (i j : ℕ) → i ≤ j → (i ≡ j → A) → (i < j → A) → A
@@ -216,7 +211,7 @@ before-first n o x =
 
 pub below-before : (w : List ℕ) (a b k x : ℕ) → rows-before w a b k x 0 ≡ rows-below w a k x
 unfolding rows-before rows-below
-below-before w a b k x = same-cut _ _ k (λ j h. before-first (column w a j) (column w b j) x)
+below-before w a b k x = same-cut _ _ k (λ j h. before-first (cell w a j) (cell w b j) x)
 
 pub rising-halved : {w : List ℕ} {c k : ℕ} (x : ℕ) → Rising w c k → Halved w c c k x 0
 rising-halved {w} {c} x s =
@@ -224,23 +219,23 @@ rising-halved {w} {c} x s =
       major-fits = s .fits;
       minor-fits = s .fits;
       falls = λ i j l h e.
-          let t : ltb (column w c j) x ≡ true = sym (before-first _ _ x) ∙ e in
-          let u = ltb-true (column w c j) x t in
+          let t : ltb (cell w c j) x ≡ true = sym (before-first _ _ x) ∙ e in
+          let u = ltb-true (cell w c j) x t in
           let v = s .rise i j l h in
-          before-first _ _ x ∙ lt-ltb (column w c i) x (omega arith);
+          before-first _ _ x ∙ lt-ltb (cell w c i) x (omega arith);
     }
 
 -- A walk along the rows of one key, from the first to the end.
 pub record Passing (w : List ℕ) (c k from key i : ℕ) : Type 0 where
   pub start : from ≤ i
   pub within : i ≤ k
-  pub below : (j : ℕ) → j < i → ltb (column w c j) (key + 1) ≡ true
+  pub below : (j : ℕ) → j < i → ltb (cell w c j) (key + 1) ≡ true
 
 below-more : (a b : ℕ) → ltb a b ≡ true → ltb a (b + 1) ≡ true
 below-more a b e = let h = ltb-true a b e in lt-ltb a (b + 1) (omega arith)
 
 module _ {w : List ℕ} {c k from : ℕ} (key : ℕ) (rising : Rising w c k) (first-row : from ≡ rows-below w c k key) where
-  it-starts : Cut (λ j. ltb (column w c j) key) k from
+  it-starts : Cut (λ j. ltb (cell w c j) key) k from
   unfolding rows-below
   it-starts = rw first-row (cuts _ k)
 
@@ -248,22 +243,22 @@ module _ {w : List ℕ} {c k from : ℕ} (key : ℕ) (rising : Rising w c k) (fi
   passing-start = record { start = omega arith; within = it-starts .within; below = λ j h. below-more _ key (it-starts .below j h) }
 
   module _ {i : ℕ} (inv : Passing w c k from key i) where
-    pub passing-next : i < k → column w c i ≡ key → Passing w c k from key (i + 1)
+    pub passing-next : i < k → cell w c i ≡ key → Passing w c k from key (i + 1)
     passing-next h e =
         let s = inv .start in
         record {
           start = omega arith;
           within = omega arith;
-          below = λ j l. one-up (λ n. ltb (column w c n) (key + 1)) i j (inv .below) (lt-ltb (column w c i) (key + 1) (omega arith)) l;
+          below = λ j l. one-up (λ n. ltb (cell w c n) (key + 1)) i j (inv .below) (lt-ltb (cell w c i) (key + 1) (omega arith)) l;
         }
 
-    pub passing-stop : i < k → (column w c i ≡ key → ⊥) → i ≡ rows-below w c k (key + 1)
+    pub passing-stop : i < k → (cell w c i ≡ key → ⊥) → i ≡ rows-below w c k (key + 1)
     unfolding rows-below
     passing-stop h d =
         let s = inv .start in
-        let l : key ≤ column w c from = ltb-false (column w c from) key (it-starts .fails (omega arith)) in
+        let l : key ≤ cell w c from = ltb-false (cell w c from) key (it-starts .fails (omega arith)) in
         let r = rising .rise from i s h in
-        the-cut (record { within = inv .within; below = inv .below; fails = λ _. le-ltb (column w c i) (key + 1) (omega arith) })
+        the-cut (record { within = inv .within; below = inv .below; fails = λ _. le-ltb (cell w c i) (key + 1) (omega arith) })
 
     pub passing-end : k ≤ i → k ≡ rows-below w c k (key + 1)
     unfolding rows-below
@@ -293,19 +288,15 @@ module _ {A B : Type 0} (q : A → Bool) (v : ℕ → A → B) (e : B) (f : ℕ 
         let z : 0 + c ≡ c = omega arith in
         rw z at (first-skip c 0 (omega arith) (λ j a b. same j (omega arith) ∙ not-true (s j) (the .below j (omega arith))))
 
-    first-at : c < k → v c (f c) ≡ first q v e 0 (span f 0 k)
-    unfolding first if_then_else_
-    first-at h = sym (skipped ∙ rw (span-more f c k h, same c h ∙ not-false (s c) (the .fails h)))
-
     pub first-none : k ≤ c → e ≡ first q v e 0 (span f 0 k)
     unfolding first
     first-none h = sym (skipped ∙ rw (span-none f c k h))
 
 -- SORTED ROWS.
 pub record Sorted (f : Workflow) : Type 0 where
-  pub routes : chained route-before (f .routes) ≡ true
-  pub limits : chained limit-before (f .limits) ≡ true
-  pub declared : chained declared-before (f .declared) ≡ true
+  pub routes : ascending (λ x. x .node) (λ x. x .outcome) (f .routes) ≡ true
+  pub limits : ascending (λ x. x .node) (λ x. x .outcome) (f .limits) ≡ true
+  pub declared : rising (λ x. x .action) (f .declared) ≡ true
 
 pub form-sorted : (f : Workflow) → form f ≡ true → Sorted f
 unfolding form
@@ -317,11 +308,11 @@ form-sorted f e =
 
 -- THE PARTS OF THE FORM.
 pub record Parts (f : Workflow) : Type 0 where
-  pub few-nodes : f .node-count ≤ node-room
-  pub few-actions : f .action-count ≤ action-room
-  pub routes-fit : every (route-fits f) (f .routes) ≡ true
-  pub limits-fit : every (limit-fits f) (f .limits) ≡ true
-  pub declared-fit : every (declared-fits f) (f .declared) ≡ true
+  pub few-nodes : f .node-count ≤ layout.node-room
+  pub few-actions : f .action-count ≤ layout.action-room
+  pub routes-fit : every (formed-route f) (f .routes) ≡ true
+  pub limits-fit : every (formed-limit f) (f .limits) ≡ true
+  pub declared-fit : every (formed-declared f) (f .declared) ≡ true
 
 pub parts-of : (f : Workflow) → form f ≡ true → Parts f
 unfolding form
@@ -338,77 +329,32 @@ parts-of f e =
       declared-fit = both _ _ declared .0;
     }
 
--- A TABLE of rows with a node, an outcome and a value, column by column.
-record Table {A : Type 0} (w : List ℕ) (a b k : ℕ) (f : ℕ → A) (node outcome : A → ℕ) : Type 0 where
-  major-fits : a + k ≤ 4169
-  minor-fits : b + k ≤ 4169
-  nodes : (j : ℕ) → j < k → node (f j) ≡ column w a j
-  outcomes : (j : ℕ) → j < k → outcome (f j) ≡ column w b j
+-- The columns of sorted rows.
+table-ascends : (w : List ℕ) (a b k : ℕ) → a + k ≤ layout.numbers → b + k ≤ layout.numbers → rows-ascend w a b k ≡ true → Ascending w a b k
+unfolding rows-ascend
+table-ascends w a b k g h e =
+    record {
+      major-fits = g;
+      minor-fits = h;
+      ascend = λ i j l m. pairwise (λ i j. ascends (cell w a i) (cell w b i) (cell w a j) (cell w b j)) (λ j. j) k (λ x y z. ascends-on _ _ _ _ _ _) e i j l m;
+    }
 
-module _ {A : Type 0} {w : List ℕ} {a b k : ℕ} {f : ℕ → A} {node outcome : A → ℕ} (table : Table w a b k f node outcome) where
-  table-ascends : chained (λ x y. ascends (node x) (outcome x) (node y) (outcome y)) (span f 0 k) ≡ true → Ascending w a b k
-  table-ascends s =
-      record {
-        major-fits = table .major-fits;
-        minor-fits = table .minor-fits;
-        ascend = λ i j l h.
-            rw (table .nodes i (omega arith), table .outcomes i (omega arith), table .nodes j h, table .outcomes j h)
-            at (pairwise (λ x y. ascends (node x) (outcome x) (node y) (outcome y)) f k (λ x y z. ascends-on (node x) (outcome x) (node y) (outcome y) (node z) (outcome z)) s i j l h);
-      }
+table-rises : (w : List ℕ) (a k : ℕ) → a + k ≤ layout.numbers → rows-rise w a k ≡ true → Rising w a k
+unfolding rows-rise
+table-rises w a k g e =
+    record {
+      fits = g;
+      rise = λ i j l h.
+          at-or-before i j l (λ q. rw q (omega arith))
+          (λ m. leb-true _ _ (pairwise (λ i j. leb (cell w a i) (cell w a j)) (λ j. j) k (λ x y z. leb-on (cell w a x) (cell w a y) (cell w a z)) e i j m h));
+    }
 
--- How many rows there are.
-abbrev pub route-rows : List ℕ → ℕ
-route-rows w = min route-room (getD w 5 0)
+module _ (w : List ℕ) (s : Sorted (workflow w)) where
+  pub routes-ascend : Ascending w layout.route-node layout.route-outcome (route-rows w)
+  routes-ascend = table-ascends w _ _ _ (omega arith) (omega arith) (routes-ascending w ∙ s .routes)
 
-abbrev pub limit-rows : List ℕ → ℕ
-limit-rows w = min limit-room (getD w 6 0)
+  pub limits-ascend : Ascending w layout.limit-node layout.limit-outcome (limit-rows w)
+  limits-ascend = table-ascends w _ _ _ (omega arith) (omega arith) (limits-ascending w ∙ s .limits)
 
-abbrev pub declared-rows : List ℕ → ℕ
-declared-rows w = min declared-room (getD w 8 0)
-
-module _ (w : List ℕ) where
-  pub route-row : (j : ℕ) → j < route-rows w → route-at w j ≡ record { node = column w 457 j; outcome = column w 969 j; target = column w 1481 j }
-  unfolding route-at
-  route-row j h = if-true _ _ _ (lt-ltb j route-room (omega arith))
-
-  pub limit-row : (j : ℕ) → j < limit-rows w → limit-at w j ≡ record { node = column w 1993 j; outcome = column w 2505 j; limit = column w 3017 j }
-  unfolding limit-at
-  limit-row j h = if-true _ _ _ (lt-ltb j limit-room (omega arith))
-
-  pub declared-row : (j : ℕ) → j < declared-rows w → declared-at w j ≡ record { action = column w 3657 j; outcome = column w 3913 j }
-  unfolding declared-at
-  declared-row j h = if-true _ _ _ (lt-ltb j declared-room (omega arith))
-
-  route-table : Table w 457 969 (route-rows w) (route-at w) (λ x. x .node) (λ x. x .outcome)
-  route-table =
-      record {
-        major-fits = omega arith;
-        minor-fits = omega arith;
-        nodes = λ j h. rw (route-row j h);
-        outcomes = λ j h. rw (route-row j h);
-      }
-
-  limit-table : Table w 1993 2505 (limit-rows w) (limit-at w) (λ x. x .node) (λ x. x .outcome)
-  limit-table =
-      record {
-        major-fits = omega arith;
-        minor-fits = omega arith;
-        nodes = λ j h. rw (limit-row j h);
-        outcomes = λ j h. rw (limit-row j h);
-      }
-
-  module _ (s : Sorted (workflow w)) where
-    pub routes-ascend : Ascending w 457 969 (route-rows w)
-    routes-ascend = table-ascends route-table (s .routes)
-
-    pub limits-ascend : Ascending w 1993 2505 (limit-rows w)
-    limits-ascend = table-ascends limit-table (s .limits)
-
-    pub declared-rise : Rising w 3657 (declared-rows w)
-    declared-rise =
-        record {
-          fits = omega arith;
-          rise = λ i j l h.
-              at-or-before i j l (λ q. rw q (omega arith))
-              (λ g. leb-true _ _ (rw (declared-row i (omega arith), declared-row j h) at (pairwise declared-before (declared-at w) (declared-rows w) (λ x y z. leb-on (x .action) (y .action) (z .action)) (s .declared) i j g h)));
-        }
+  pub declared-rise : Rising w layout.declared-action (declared-rows w)
+  declared-rise = table-rises w _ _ (omega arith) (declared-rising w ∙ s .declared)

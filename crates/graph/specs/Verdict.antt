@@ -1,5 +1,5 @@
 -- The verdict on a sheet: the first broken rule, with the lowest node or action that breaks it.
-use mathlib.Core.Bool.{Bool, true, false, not}
+use mathlib.Core.Bool.{Bool, true, false}
 use mathlib.Core.List.{List, [], _∷_}
 use Prim.Native.Nat.{ℕ}
 use lib.Dec.{ltb, eqb}
@@ -9,71 +9,72 @@ use Rattle.laws.specs.First.{first}
 use Rattle.workflow.specs.Code.{none, format-0-1, reconcilable}
 use Rattle.workflow.specs.View.{Workflow}
 use Rattle.workflow.specs.Lookup.{is-0-2, policy-of}
-use Rattle.workflow.specs.declared.Action.{Action}
 use Rattle.workflow.specs.declared.Found.{Found}
 use Rattle.workflow.specs.declared.Found.the-variants.{At, Nothing}
-use Rattle.workflow.specs.declared.Ceilings.{Ceilings}
+use Rattle.graph.specs.declared.Ceilings.{Ceilings}
 use Rattle.graph.specs.declared.Verdict.{Verdict}
 use Rattle.graph.specs.declared.Verdict.the-variants.{Fine, Broken}
 use Rattle.graph.specs.Lowest.{lowest}
 use Rattle.graph.specs.Form.{form}
 use Rattle.graph.specs.Rules.{within, breaks-1, breaks-7, breaks-8, breaks-9, breaks-12}
-use Rattle.graph.specs.Sets.{has, reached, ending}
+use Rattle.graph.specs.Sets.{breaks-14, breaks-15}
 
--- A rule of the whole sheet, and one whose item is the lowest that breaks it.
+-- A rule of the whole sheet or of a call, and one whose item is the lowest that breaks it.
 abbrev pub rule : (number : ℕ) → (holds : Bool) → Verdict
-rule k h = if h then Fine else Broken k none
+rule number holds = if holds then Fine else Broken number none
 
 unfoldable pub rule-at : (number : ℕ) → (broken-by : Found) → Verdict
-rule-at k (At i) = Broken k i
-rule-at k Nothing = Fine
+rule-at number (At item) = Broken number item
+rule-at number Nothing = Fine
 
-abbrev pub is-broken : Verdict → Bool
+unfoldable pub is-broken : Verdict → Bool
 is-broken Fine = false
-is-broken (Broken k i) = true
-
--- Per action: 16 (reconcilable), then 7.
-abbrev pub action-verdict : Workflow → Ceilings → (action : ℕ) → Verdict
-action-verdict f c a =
-    if eqb (policy-of f a .effect) reconcilable then Broken 16 a else
-    if breaks-7 f (c .attempts) a then Broken 7 a else
-    Fine
-
-unfoldable pub actions-verdict : Workflow → Ceilings → Verdict
-actions-verdict f c = first (λ a. is-broken (action-verdict f c a)) (λ _ a. action-verdict f c a) Fine 0 (span (λ n. n) 0 (f .action-count))
-
--- The stages, in the order of document 01: the form, what a formed sheet is held to, its graph, and where its routes lead.
-abbrev pub reach-stages : Workflow → List Verdict
-reach-stages f =
-    rule-at 14 (lowest (f .node-count) (λ n. is-0-2 f and not (has (reached f) n)))
-    ∷ rule-at 15 (lowest (f .node-count) (λ n. is-0-2 f and not (has (ending f) n)))
-    ∷ []
-
-abbrev pub graph-stages : Workflow → List Verdict
-graph-stages f =
-    rule-at 8 (lowest (f .node-count) (breaks-8 f))
-    ∷ rule-at 9 (lowest (f .node-count) (breaks-9 f))
-    ∷ rule-at 12 (lowest (f .node-count) (breaks-12 f))
-    ∷ reach-stages f
-
-abbrev pub formed-stages : Workflow → Ceilings → List Verdict
-formed-stages f c =
-    rule 1 (eqb (f .format) format-0-1 or is-0-2 f)
-    ∷ rule-at 1 (lowest (f .node-count) (breaks-1 f))
-    ∷ rule 3 (within (c .nodes) (f .node-count))
-    ∷ rule 5 (ltb (f .start) (f .node-count))
-    ∷ rule 6 (within (c .visits) (f .max-visits-per-node) and within (c .activations) (f .max-activations))
-    ∷ actions-verdict f c
-    ∷ graph-stages f
-
-abbrev pub stages : Workflow → Ceilings → List Verdict
-stages f c = rule 20 (form f) ∷ formed-stages f c
+is-broken (Broken number item) = true
 
 -- The first stage that is broken.
 unfoldable pub first-broken : List Verdict → Verdict
 first-broken [] = Fine
-first-broken (Fine ∷ vs) = first-broken vs
-first-broken (Broken k i ∷ vs) = Broken k i
+first-broken (Fine ∷ later) = first-broken later
+first-broken (Broken number item ∷ later) = Broken number item
+
+-- Per action: 16 (reconcilable), then 7.
+abbrev pub action-verdict : Workflow → Ceilings → (action : ℕ) → Verdict
+action-verdict sheet ceilings action =
+    if eqb (policy-of sheet action .effect) reconcilable then Broken 16 action else
+    if breaks-7 sheet (ceilings .attempts) action then Broken 7 action else
+    Fine
+
+unfoldable pub actions-verdict : Workflow → Ceilings → Verdict
+actions-verdict sheet ceilings =
+    first (λ action. is-broken (action-verdict sheet ceilings action)) (λ _ action. action-verdict sheet ceilings action) Fine
+    0 (span (λ n. n) 0 (sheet .action-count))
+
+-- The stages, in the order of document 01: the form, what a formed sheet is held to, its graph, and where its routes lead.
+abbrev pub reach-stages : Workflow → List Verdict
+reach-stages sheet =
+    rule-at 14 (lowest (sheet .node-count) (breaks-14 sheet))
+    ∷ rule-at 15 (lowest (sheet .node-count) (breaks-15 sheet))
+    ∷ []
+
+abbrev pub graph-stages : Workflow → List Verdict
+graph-stages sheet =
+    rule-at 8 (lowest (sheet .node-count) (breaks-8 sheet))
+    ∷ rule-at 9 (lowest (sheet .node-count) (breaks-9 sheet))
+    ∷ rule-at 12 (lowest (sheet .node-count) (breaks-12 sheet))
+    ∷ reach-stages sheet
+
+abbrev pub formed-stages : Workflow → Ceilings → List Verdict
+formed-stages sheet ceilings =
+    rule 1 (eqb (sheet .format) format-0-1 or is-0-2 sheet)
+    ∷ rule-at 1 (lowest (sheet .node-count) (breaks-1 sheet))
+    ∷ rule 3 (within (ceilings .nodes) (sheet .node-count))
+    ∷ rule 5 (ltb (sheet .start) (sheet .node-count))
+    ∷ rule 6 (within (ceilings .visits) (sheet .max-visits-per-node) and within (ceilings .activations) (sheet .max-activations))
+    ∷ actions-verdict sheet ceilings
+    ∷ graph-stages sheet
+
+abbrev pub stages : Workflow → Ceilings → List Verdict
+stages sheet ceilings = rule 20 (form sheet) ∷ formed-stages sheet ceilings
 
 unfoldable pub verdict : Workflow → Ceilings → Verdict
-verdict f c = first-broken (stages f c)
+verdict sheet ceilings = first-broken (stages sheet ceilings)

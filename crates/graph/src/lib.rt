@@ -4,18 +4,24 @@ mod reach;
 mod rules;
 mod search;
 
-use workflow::Ceilings;
-use workflow::FORMAT;
 use workflow::Found;
-use workflow::NUMBERS;
 use workflow::code;
+use workflow::layout::NUMBERS;
 ghost use mathlib.Core.Path.{_≡_};
 ghost use mathlib.Core.Bool.{true};
 ghost use Rattle.workflow.specs.View.{workflow};
 ghost use Rattle.graph.specs.Form.{form};
-ghost use Rattle.graph.specs.Verdict.{rule, rule-at, first-broken, reach-stages, graph-stages, formed-stages, verdict};
+ghost use Rattle.graph.specs.Verdict.{rule, rule-at, is-broken, first-broken, reach-stages, graph-stages, formed-stages, verdict};
 ghost use Rattle.graph.specs.Accepted.{Rules};
 ghost use Rattle.graph.specs.Stages.{Started};
+
+// The largest numbers that a sheet may ask for.
+pub struct Ceilings {
+    pub nodes: u32,
+    pub visits: u32,
+    pub activations: u32,
+    pub attempts: u32,
+}
 
 // The first broken rule with its item, or none.
 pub enum Verdict {
@@ -23,33 +29,8 @@ pub enum Verdict {
     Broken { rule: u32, item: u32 },
 }
 
-// A rule whose item is the lowest node that breaks it.
-fn broken_by(rule: u32, x: Found) -> Verdict
-    ensures { λ r. ⌜ r ≡ rule-at rule x ⌝ }
-{
-    match x {
-        Found::At(item) => Verdict::Broken { rule, item },
-        Found::Nothing => Verdict::Fine,
-    }
-}
-
-// 14, 15: in format 2.
-fn reach_verdict(w: &[u32; NUMBERS]) -> Verdict
-    requires { ⌜ Rules (workflow (now w)) ⌝ }
-    ensures { λ r. ⌜ r ≡ first-broken (reach-stages (workflow (now (w .entry)))) ⌝ }
-{
-    if w[FORMAT] == code::FORMAT_0_2 {
-        let unreached = broken_by(14, reach::unreached(w));
-        if let Verdict::Broken { rule, item } = unreached {
-            return Verdict::Broken { rule, item };
-        }
-        return broken_by(15, reach::unending(w));
-    }
-    Verdict::Fine
-}
-
 // A rule of the whole sheet, or of the call.
-pub fn held(number: u32, holds: bool) -> Verdict
+pub fn rule(number: u32, holds: bool) -> Verdict
     ensures { λ r. ⌜ r ≡ rule number holds ⌝ }
 {
     if holds {
@@ -61,54 +42,84 @@ pub fn held(number: u32, holds: bool) -> Verdict
     }
 }
 
-// 8, 9, 12, then 14 and 15.
+// A rule whose item is the lowest node that breaks it.
+fn rule_at(number: u32, found: Found) -> Verdict
+    ensures { λ r. ⌜ r ≡ rule-at number found ⌝ }
+{
+    match found {
+        Found::At(item) => Verdict::Broken { rule: number, item },
+        Found::Nothing => Verdict::Fine,
+    }
+}
+
+pub fn is_broken(v: Verdict) -> bool
+    ensures { λ r. ⌜ r ≡ is-broken v ⌝ }
+{
+    match v {
+        Verdict::Fine => false,
+        Verdict::Broken { rule: _, item: _ } => true,
+    }
+}
+
+// The stages, in the order of the definition.
+
+fn reach_verdict(w: &[u32; NUMBERS]) -> Verdict
+    requires { ⌜ Rules (workflow (now w)) ⌝ }
+    ensures { λ r. ⌜ r ≡ first-broken (reach-stages (workflow (now (w .entry)))) ⌝ }
+{
+    let unreached = reach::rule_14(w);
+    if is_broken(unreached) {
+        return unreached;
+    }
+    reach::rule_15(w)
+}
+
 fn graph_verdict(w: &[u32; NUMBERS]) -> Verdict
     requires { ⌜ Started (workflow (now w)) ⌝ }
     ensures { λ r. ⌜ r ≡ first-broken (graph-stages (workflow (now (w .entry)))) ⌝ }
 {
-    let activities = broken_by(8, rules::lowest_8(w));
-    if let Verdict::Broken { rule, item } = activities {
-        return Verdict::Broken { rule, item };
+    let activities = rules::rule_8(w);
+    if is_broken(activities) {
+        return activities;
     }
-    let awaits = broken_by(9, rules::lowest_9(w));
-    if let Verdict::Broken { rule, item } = awaits {
-        return Verdict::Broken { rule, item };
+    let awaits = rules::rule_9(w);
+    if is_broken(awaits) {
+        return awaits;
     }
-    let limits = broken_by(12, rules::lowest_12(w));
-    if let Verdict::Broken { rule, item } = limits {
-        return Verdict::Broken { rule, item };
+    let limits = rules::rule_12(w);
+    if is_broken(limits) {
+        return limits;
     }
     reach_verdict(w)
 }
 
-// 1, 3, 5, 6, the actions' 16 and 7, then the graph's rules.
 fn formed_verdict(w: &[u32; NUMBERS], c: Ceilings) -> Verdict
     requires { ⌜ form (workflow (now w)) ≡ true ⌝ }
     ensures { λ r. ⌜ r ≡ first-broken (formed-stages (workflow (now (w .entry))) c) ⌝ }
 {
-    let format = held(1, rules::has_format(w));
-    if let Verdict::Broken { rule, item } = format {
-        return Verdict::Broken { rule, item };
+    let format = rules::rule_1(w);
+    if is_broken(format) {
+        return format;
     }
-    let params = broken_by(1, rules::lowest_with_params(w));
-    if let Verdict::Broken { rule, item } = params {
-        return Verdict::Broken { rule, item };
+    let params = rules::rule_1_params(w);
+    if is_broken(params) {
+        return params;
     }
-    let nodes = held(3, rules::has_nodes(w, c));
-    if let Verdict::Broken { rule, item } = nodes {
-        return Verdict::Broken { rule, item };
+    let nodes = rules::rule_3(w, c);
+    if is_broken(nodes) {
+        return nodes;
     }
-    let start = held(5, rules::has_start(w));
-    if let Verdict::Broken { rule, item } = start {
-        return Verdict::Broken { rule, item };
+    let start = rules::rule_5(w);
+    if is_broken(start) {
+        return start;
     }
-    let limits = held(6, rules::has_limits(w, c));
-    if let Verdict::Broken { rule, item } = limits {
-        return Verdict::Broken { rule, item };
+    let limits = rules::rule_6(w, c);
+    if is_broken(limits) {
+        return limits;
     }
     let actions = rules::actions_verdict(w, c);
-    if let Verdict::Broken { rule, item } = actions {
-        return Verdict::Broken { rule, item };
+    if is_broken(actions) {
+        return actions;
     }
     graph_verdict(w)
 }
@@ -117,11 +128,9 @@ fn formed_verdict(w: &[u32; NUMBERS], c: Ceilings) -> Verdict
 pub fn validate(w: &[u32; NUMBERS], c: Ceilings) -> Verdict
     ensures { λ r. ⌜ r ≡ verdict (workflow (now (w .entry))) c ⌝ }
 {
-    if form::is_formed(w) {
-        return formed_verdict(w, c);
+    let form = form::rule_20(w);
+    if is_broken(form) {
+        return form;
     }
-    Verdict::Broken {
-        rule: 20,
-        item: code::NONE,
-    }
+    formed_verdict(w, c)
 }

@@ -1,21 +1,22 @@
 // Rules 14 and 15: nodes that start does not reach, and nodes that reach no end. Sets of nodes are 64-bit sets.
+use crate::Verdict;
+use crate::rule_at;
 use workflow::Found;
-use workflow::NODE_COUNT;
-use workflow::NODES;
-use workflow::NUMBERS;
-use workflow::ROUTE_COUNT;
-use workflow::ROUTES;
 use workflow::Route;
-use workflow::START;
 use workflow::capped;
 use workflow::code;
+use workflow::is_0_2;
+use workflow::layout;
+use workflow::layout::NUMBERS;
 use workflow::node_of;
 use workflow::route_at;
 ghost use mathlib.Core.Path.{_≡_};
 ghost use Prim.Native.Nat.{_^_, _<_, _≤_};
 ghost use Rattle.workflow.specs.View.{workflow};
+ghost use Rattle.graph.specs.Lowest.{lowest};
+ghost use Rattle.graph.specs.Verdict.{rule-at};
 ghost use Rattle.graph.specs.Accepted.{Rules};
-ghost use Rattle.graph.specs.Sets.{turned, closed, reached, ending};
+ghost use Rattle.graph.specs.Sets.{turned, closed, breaks-14, breaks-15};
 ghost use Rattle.graph.specs.ReachLaws.{missing, add-end, ends, masks};
 
 fn bit(n: u32) -> u64
@@ -40,12 +41,12 @@ fn turned(back: bool, x: Route) -> Route
 }
 
 // For each node, the nodes that a route leads to.
-fn masks(w: &[u32; NUMBERS], back: bool) -> [u64; NODES]
+fn masks(w: &[u32; NUMBERS], back: bool) -> [u64; layout::NODES]
     requires { ⌜ Rules (workflow (now w)) ⌝ }
     ensures { λ r. ⌜ r ≡ masks (workflow (now (w .entry))) back ⌝ }
 {
-    let k = capped(w[ROUTE_COUNT], ROUTES);
-    let mut masks = [0u64; NODES];
+    let k = capped(w[layout::ROUTE_COUNT], layout::ROUTES);
+    let mut masks = [0u64; layout::NODES];
     let mut i: usize = 0;
     while i < k {
         let x = turned(back, route_at(w, i));
@@ -89,7 +90,7 @@ fn ends(w: &[u32; NUMBERS]) -> u64
     requires { ⌜ Rules (workflow (now w)) ⌝ }
     ensures { λ r. ⌜ r ≡ ends (workflow (now (w .entry))) ⌝ }
 {
-    let count = w[NODE_COUNT];
+    let count = w[layout::NODE_COUNT];
     let mut set: u64 = 0;
     let mut i: u32 = 0;
     while i < count {
@@ -112,20 +113,40 @@ fn missing(set: u64, count: u32) -> Found
     Found::Nothing
 }
 
-// Rule 14.
-pub fn unreached(w: &[u32; NUMBERS]) -> Found
+// Rules 14 and 15, in format 2.
+
+fn lowest_14(w: &[u32; NUMBERS]) -> Found
     requires { ⌜ Rules (workflow (now w)) ⌝ }
-    ensures { λ r. ⌜ r ≡ missing (workflow (now (w .entry)) .node-count) (reached (workflow (now (w .entry)))) ⌝ }
+    ensures { λ r. ⌜ r ≡ lowest (workflow (now (w .entry)) .node-count) (breaks-14 (workflow (now (w .entry)))) ⌝ }
 {
-    let reached = closed(w, false, bit(w[START]));
-    missing(reached, w[NODE_COUNT])
+    if is_0_2(w) {
+        let reached = closed(w, false, bit(w[layout::START]));
+        return missing(reached, w[layout::NODE_COUNT]);
+    }
+    Found::Nothing
 }
 
-// Rule 15.
-pub fn unending(w: &[u32; NUMBERS]) -> Found
+pub fn rule_14(w: &[u32; NUMBERS]) -> Verdict
     requires { ⌜ Rules (workflow (now w)) ⌝ }
-    ensures { λ r. ⌜ r ≡ missing (workflow (now (w .entry)) .node-count) (ending (workflow (now (w .entry)))) ⌝ }
+    ensures { λ r. ⌜ r ≡ rule-at 14 (lowest (workflow (now (w .entry)) .node-count) (breaks-14 (workflow (now (w .entry))))) ⌝ }
 {
-    let ending = closed(w, true, ends(w));
-    missing(ending, w[NODE_COUNT])
+    rule_at(14, lowest_14(w))
+}
+
+fn lowest_15(w: &[u32; NUMBERS]) -> Found
+    requires { ⌜ Rules (workflow (now w)) ⌝ }
+    ensures { λ r. ⌜ r ≡ lowest (workflow (now (w .entry)) .node-count) (breaks-15 (workflow (now (w .entry)))) ⌝ }
+{
+    if is_0_2(w) {
+        let ending = closed(w, true, ends(w));
+        return missing(ending, w[layout::NODE_COUNT]);
+    }
+    Found::Nothing
+}
+
+pub fn rule_15(w: &[u32; NUMBERS]) -> Verdict
+    requires { ⌜ Rules (workflow (now w)) ⌝ }
+    ensures { λ r. ⌜ r ≡ rule-at 15 (lowest (workflow (now (w .entry)) .node-count) (breaks-15 (workflow (now (w .entry))))) ⌝ }
+{
+    rule_at(15, lowest_15(w))
 }

@@ -1,6 +1,6 @@
 // Finding rows by binary search, once the form says that they are sorted.
 use crate::form::ascends;
-use workflow::NUMBERS;
+use workflow::layout::NUMBERS;
 ghost use mathlib.Core.Path.{_≡_};
 ghost use Prim.Native.Nat.{_+_};
 ghost use Rattle.graph.specs.SearchLaws.{rows-before, rows-below, Halved, Rising};

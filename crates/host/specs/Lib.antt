@@ -1,7 +1,16 @@
+-- definitions
+pub mod Layout
 pub mod Read
-pub mod ReadLaws
 pub mod Write
-pub mod WriteLaws
-pub mod Round
 pub mod Host
+pub mod Fits
+pub mod ReadAnswer
+-- laws
+pub mod ReadLaws
+pub mod WriteLaws
 pub mod HostLaws
+pub mod Lists
+pub mod Cases
+pub mod Round
+pub mod RoundBack
+pub mod AnswerBack

@@ -1,13 +1,13 @@
 -- How the lent numbers of a run record and of a call are read (docs/NUMBERS.md), and which numbers their fields can hold.
-use mathlib.Core.Bool.{Bool, _&&_, _||_}
+use mathlib.Core.Bool.{Bool, _&&_}
 use mathlib.Core.List.{List, [], _∷_}
-use Prim.Native.Nat.{ℕ, _+_, _*_, _%_, _^_}
+use Prim.Native.Nat.{ℕ, _+_, _%_, _^_}
 use lib.ListN.{getD}
 use lib.Dec.{ltb, eqb}
 use Rattle.laws.specs.Bool.{if_then_else_}
 use Rattle.laws.specs.Rows.{span}
 use Rattle.laws.specs.Every.{every, below}
-use Rattle.workflow.specs.declared.Ceilings.{Ceilings}
+use Rattle.graph.specs.declared.Ceilings.{Ceilings}
 use Rattle.model.specs.declared.ErrorInfo.{ErrorInfo}
 use Rattle.model.specs.declared.Output.{Output}
 use Rattle.model.specs.declared.Kept.{Kept}
@@ -21,158 +21,276 @@ use Rattle.model.specs.declared.RunResult.{RunResult}
 use Rattle.model.specs.declared.State.{State}
 use Rattle.model.specs.declared.event.Event.{Event}
 use Rattle.model.specs.declared.event.Mapping.{Mapping}
-use Rattle.model.specs.declared.event.Mappings.{Mappings}
-use Rattle.model.specs.declared.event.Limits.{Limits}
+use Rattle.kernel.specs.declared.Limits.{Limits}
 use Rattle.kernel.specs.declared.Call.{Call}
+use Rattle.host.specs.Layout as layout
+use Rattle.host.specs.Layout.{signal-place, visits-place, streak-place, result-place, mapping-place}
 
 -- The number at a place, and its lowest 32 bits.
-abbrev pub at : List ℕ → ℕ → ℕ
-at r i = getD r i 0
+abbrev pub at : List ℕ → (place : ℕ) → ℕ
+at numbers place = getD numbers place 0
 
 unfoldable pub narrow : ℕ → ℕ
-narrow x = x % 2 ^ 32
+narrow value = value % 2 ^ 32
 
 -- AN OUTPUT AND A KEPT ERROR: a tag and three numbers.
 unfoldable pub error-of : (code node detail : ℕ) → ErrorInfo
-error-of a b c = record { code = narrow a; node = narrow b; detail = narrow c }
+error-of code node detail = record { code = narrow code; node = narrow node; detail = narrow detail }
 
-unfoldable pub output-of : (tag a b c : ℕ) → Output
-output-of t a b c = if eqb t 0 then Output.Nothing else if eqb t 1 then Output.Handle (narrow a) else Output.Error (error-of a b c)
+unfoldable pub output-of : (tag first second third : ℕ) → Output
+output-of tag first second third =
+    if eqb tag 0 then Output.Nothing else
+    if eqb tag 1 then Output.Handle (narrow first) else Output.Error (error-of first second third)
 
-unfoldable pub kept-of : (tag a b c : ℕ) → Kept
-kept-of t a b c = if eqb t 0 then Kept.Nothing else Kept.Error (error-of a b c)
+unfoldable pub kept-of : (tag first second third : ℕ) → Kept
+kept-of tag first second third = if eqb tag 0 then Kept.Nothing else Kept.Error (error-of first second third)
 
--- ROWS OF A RECORD: slot i of each kind.
+-- ROWS OF A RECORD.
 unfoldable pub signal-of : List ℕ → ℕ → BufferedSignal
-signal-of r i =
+signal-of numbers slot =
     record {
-      sequence = at r (22 + 5 * i);
-      «event_id» = narrow (at r (23 + 5 * i));
-      signal = narrow (at r (24 + 5 * i));
-      outcome = narrow (at r (25 + 5 * i));
-      «data» = narrow (at r (26 + 5 * i));
+      sequence = at numbers (signal-place slot);
+      «event_id» = narrow (at numbers (signal-place slot + 1));
+      signal = narrow (at numbers (signal-place slot + 2));
+      outcome = narrow (at numbers (signal-place slot + 3));
+      «data» = narrow (at numbers (signal-place slot + 4));
     }
 
 unfoldable pub visits-of : List ℕ → ℕ → Visits
-visits-of r i = record { count = narrow (at r (342 + i)) }
+visits-of numbers node = record { count = narrow (at numbers (visits-place node)) }
 
 unfoldable pub streak-of : List ℕ → ℕ → Streak
-streak-of r i = record { outcome = narrow (at r (406 + 2 * i)); count = narrow (at r (407 + 2 * i)) }
+streak-of numbers node = record { outcome = narrow (at numbers (streak-place node)); count = narrow (at numbers (streak-place node + 1)) }
 
 unfoldable pub result-of : List ℕ → ℕ → NodeResult
-result-of r i =
+result-of numbers node =
     record {
-      visit = narrow (at r (534 + 6 * i));
-      outcome = narrow (at r (535 + 6 * i));
-      output = output-of (at r (536 + 6 * i)) (at r (537 + 6 * i)) (at r (538 + 6 * i)) (at r (539 + 6 * i));
+      visit = narrow (at numbers (result-place node));
+      outcome = narrow (at numbers (result-place node + 1));
+      output = output-of (at numbers (result-place node + 2)) (at numbers (result-place node + 3)) (at numbers (result-place node + 4)) (at numbers (result-place node + 5));
     }
 
--- THE RUN RECORD: 918 numbers.
+-- THE RUN RECORD.
+unfoldable pub position-of : List ℕ → Position
+position-of numbers = record { node = narrow (at numbers layout.record-position-node); visit = narrow (at numbers layout.record-position-visit) }
+
+unfoldable pub invocation-of : List ℕ → InvocationState
+invocation-of numbers =
+    record {
+      phase = narrow (at numbers layout.record-phase);
+      node = narrow (at numbers layout.record-invocation-node);
+      visit = narrow (at numbers layout.record-invocation-visit);
+      action = narrow (at numbers layout.record-invocation-action);
+      attempt = narrow (at numbers layout.record-invocation-attempt);
+      input = narrow (at numbers layout.record-invocation-input);
+      error = kept-of (at numbers layout.record-error) (at numbers (layout.record-error + 1)) (at numbers (layout.record-error + 2)) (at numbers (layout.record-error + 3));
+    }
+
+unfoldable pub run-result-of : List ℕ → RunResult
+run-result-of numbers =
+    record {
+      output = output-of (at numbers layout.record-result) (at numbers (layout.record-result + 1)) (at numbers (layout.record-result + 2)) (at numbers (layout.record-result + 3));
+    }
+
 unfoldable pub record-of : List ℕ → State
-record-of r =
+record-of numbers =
     record {
-      signals = span (signal-of r) 0 64;
-      visits = span (visits-of r) 0 64;
-      streaks = span (streak-of r) 0 64;
-      results = span (result-of r) 0 64;
-      «last_sequence» = at r 3;
-      «last_accepted_at» = at r 4;
-      «signal_count» = narrow (at r 21);
-      status = narrow (at r 0);
-      input = narrow (at r 1);
-      activations = narrow (at r 2);
-      position = record { node = narrow (at r 5); visit = narrow (at r 6) };
-      invocation = record {
-        phase = narrow (at r 7);
-        node = narrow (at r 8);
-        visit = narrow (at r 9);
-        action = narrow (at r 10);
-        attempt = narrow (at r 11);
-        input = narrow (at r 12);
-        error = kept-of (at r 13) (at r 14) (at r 15) (at r 16);
-      };
-      result = record { output = output-of (at r 17) (at r 18) (at r 19) (at r 20) };
+      signals = span (signal-of numbers) 0 layout.store;
+      visits = span (visits-of numbers) 0 layout.nodes;
+      streaks = span (streak-of numbers) 0 layout.nodes;
+      results = span (result-of numbers) 0 layout.nodes;
+      «last_sequence» = at numbers layout.record-last-sequence;
+      «last_accepted_at» = at numbers layout.record-last-accepted-at;
+      «signal_count» = narrow (at numbers layout.record-stored);
+      status = narrow (at numbers layout.record-status);
+      input = narrow (at numbers layout.record-input);
+      activations = narrow (at numbers layout.record-activations);
+      position = position-of numbers;
+      invocation = invocation-of numbers;
+      result = run-result-of numbers;
     }
 
--- THE CALL: 38 numbers.
+-- THE CALL.
 unfoldable pub event-of : List ℕ → Event
-event-of c =
+event-of numbers =
     record {
-      sequence = at c 8;
-      «accepted_at» = at c 9;
-      delay = at c 25;
-      «event_id» = narrow (at c 10);
-      kind = narrow (at c 11);
-      input = narrow (at c 12);
-      signal = narrow (at c 13);
-      outcome = narrow (at c 14);
-      «data» = narrow (at c 15);
-      node = narrow (at c 16);
-      visit = narrow (at c 17);
-      attempt = narrow (at c 18);
-      status = narrow (at c 19);
-      output = narrow (at c 20);
-      code = narrow (at c 22);
-      detail = narrow (at c 23);
-      resolution = narrow (at c 26);
-      «has_error» = eqb (at c 21) 1;
-      retryable = eqb (at c 24) 1;
+      sequence = at numbers layout.call-sequence;
+      «accepted_at» = at numbers layout.call-accepted-at;
+      delay = at numbers layout.call-delay;
+      «event_id» = narrow (at numbers layout.call-event-id);
+      kind = narrow (at numbers layout.call-kind);
+      input = narrow (at numbers layout.call-input);
+      signal = narrow (at numbers layout.call-signal);
+      outcome = narrow (at numbers layout.call-outcome);
+      «data» = narrow (at numbers layout.call-data);
+      node = narrow (at numbers layout.call-node);
+      visit = narrow (at numbers layout.call-visit);
+      attempt = narrow (at numbers layout.call-attempt);
+      status = narrow (at numbers layout.call-status);
+      output = narrow (at numbers layout.call-output);
+      code = narrow (at numbers layout.call-error-code);
+      detail = narrow (at numbers layout.call-error-detail);
+      resolution = narrow (at numbers layout.call-resolution);
+      «has_error» = eqb (at numbers layout.call-has-error) 1;
+      retryable = eqb (at numbers layout.call-retryable) 1;
     }
 
--- The mapping answer whose numbers begin at k.
 unfoldable pub mapping-of : List ℕ → ℕ → Mapping
-mapping-of c k =
+mapping-of numbers index =
     record {
-      kind = narrow (at c k);
-      value = narrow (at c (k + 1));
-      code = narrow (at c (k + 2));
-      detail = narrow (at c (k + 3));
-      operations = narrow (at c (k + 4));
+      kind = narrow (at numbers (mapping-place index));
+      value = narrow (at numbers (mapping-place index + 1));
+      code = narrow (at numbers (mapping-place index + 2));
+      detail = narrow (at numbers (mapping-place index + 3));
+      operations = narrow (at numbers (mapping-place index + 4));
+    }
+
+unfoldable pub ceilings-of : List ℕ → Ceilings
+ceilings-of numbers =
+    record {
+      nodes = narrow (at numbers layout.call-ceiling-nodes);
+      visits = narrow (at numbers layout.call-ceiling-visits);
+      activations = narrow (at numbers layout.call-ceiling-activations);
+      attempts = narrow (at numbers layout.call-ceiling-attempts);
+    }
+
+unfoldable pub limits-of : List ℕ → Limits
+limits-of numbers =
+    record {
+      microsteps = narrow (at numbers layout.call-limit-microsteps);
+      commands = narrow (at numbers layout.call-limit-commands);
+      operations = narrow (at numbers layout.call-limit-operations);
     }
 
 unfoldable pub call-of : List ℕ → Call
-call-of c =
+call-of numbers =
     record {
-      ceilings = record { nodes = narrow (at c 0); visits = narrow (at c 1); activations = narrow (at c 2); attempts = narrow (at c 3) };
-      limits = record { microsteps = narrow (at c 4); commands = narrow (at c 5); operations = narrow (at c 6) };
-      event = event-of c;
-      mappings = record { answers = mapping-of c 28 ∷ mapping-of c 33 ∷ []; count = narrow (at c 27) };
+      ceilings = ceilings-of numbers;
+      limits = limits-of numbers;
+      event = event-of numbers;
+      mappings = record { answers = mapping-of numbers 0 ∷ mapping-of numbers 1 ∷ []; count = narrow (at numbers layout.call-answered) };
     }
 
 -- A run record goes with the call.
 abbrev pub has-record : List ℕ → Bool
-has-record c = eqb (at c 7) 1
+has-record numbers = eqb (at numbers layout.call-has-record) 1
 
--- WHAT FIELDS CAN HOLD. Numbers of 32 bits, from a place up to another.
-abbrev pub is-32 : ℕ → Bool
-is-32 x = ltb x (2 ^ 32)
+-- WHAT FIELDS CAN HOLD. A field's place, and what its number must be below.
+pub record Field : Type 0 where
+  pub place : ℕ
+  pub bound : ℕ
 
-unfoldable pub range-fits : List ℕ → (start end : ℕ) → Bool
-range-fits r i k = every is-32 (span (at r) i k)
+-- Any number of 32 bits; the name of a node, an action, a signal or an outcome; the code of an error; a mark, 0 or 1.
+abbrev pub number : ℕ → Field
+number place = record { place = place; bound = 2 ^ 32 }
 
--- A tag, and zeros behind it where it gives no meaning: an output's first number has one above tag 0, the others above tag 1; a kept error's all above tag 0.
-unfoldable pub output-fits : (tag a b c : ℕ) → Bool
-output-fits t a b c = ltb t 3 && (ltb 0 t || eqb a 0) && (ltb 1 t || eqb b 0) && (ltb 1 t || eqb c 0)
+abbrev pub name : ℕ → Field
+name place = record { place = place; bound = 256 }
 
-unfoldable pub kept-fits : (tag a b c : ℕ) → Bool
-kept-fits t a b c = ltb t 2 && (ltb 0 t || eqb a 0) && (ltb 0 t || eqb b 0) && (ltb 0 t || eqb c 0)
+abbrev pub code : ℕ → Field
+code place = record { place = place; bound = 65536 }
 
--- All numbers of a stored signal but its sequence.
+abbrev pub mark : ℕ → Field
+mark place = record { place = place; bound = 2 }
+
+abbrev pub field-fits : List ℕ → Field → Bool
+field-fits numbers field = ltb (at numbers (field .place)) (field .bound)
+
+unfoldable pub all-fit : List ℕ → List Field → Bool
+all-fit numbers fields = every (field-fits numbers) fields
+
+-- An output is nothing, a handle or an error; a kept error is none or one. What the tag gives no meaning is 0.
+abbrev pub error-fits : (code node detail : ℕ) → Bool
+error-fits code node detail = ltb code 65536 && ltb node 256 && ltb detail (2 ^ 32)
+
+unfoldable pub output-fits : (tag first second third : ℕ) → Bool
+output-fits tag first second third =
+    if eqb tag 0 then eqb first 0 && eqb second 0 && eqb third 0 else
+    if eqb tag 1 then ltb first (2 ^ 32) && eqb second 0 && eqb third 0 else
+    (eqb tag 2 && error-fits first second third)
+
+unfoldable pub kept-fits : (tag first second third : ℕ) → Bool
+kept-fits tag first second third =
+    if eqb tag 0 then eqb first 0 && eqb second 0 && eqb third 0 else
+    (eqb tag 1 && error-fits first second third)
+
+-- THE RECORD. Its last sequence and last accepted time, and the sequence of a stored signal, are any numbers.
+abbrev pub head-fields : List Field
+head-fields =
+    number layout.record-status
+    ∷ number layout.record-input
+    ∷ number layout.record-activations
+    ∷ name layout.record-position-node
+    ∷ number layout.record-position-visit
+    ∷ number layout.record-phase
+    ∷ name layout.record-invocation-node
+    ∷ number layout.record-invocation-visit
+    ∷ name layout.record-invocation-action
+    ∷ number layout.record-invocation-attempt
+    ∷ number layout.record-invocation-input
+    ∷ number layout.record-stored
+    ∷ []
+
+abbrev pub signal-fields : ℕ → List Field
+signal-fields slot = number (signal-place slot + 1) ∷ name (signal-place slot + 2) ∷ name (signal-place slot + 3) ∷ number (signal-place slot + 4) ∷ []
+
+-- visits; the streak's outcome and count; the result's visit and outcome
+abbrev pub node-fields : ℕ → List Field
+node-fields node = number (visits-place node) ∷ name (streak-place node) ∷ number (streak-place node + 1) ∷ number (result-place node) ∷ name (result-place node + 1) ∷ []
+
+unfoldable pub head-fits : List ℕ → Bool
+head-fits numbers =
+    all-fit numbers head-fields
+    && kept-fits (at numbers layout.record-error) (at numbers (layout.record-error + 1)) (at numbers (layout.record-error + 2)) (at numbers (layout.record-error + 3))
+    && output-fits (at numbers layout.record-result) (at numbers (layout.record-result + 1)) (at numbers (layout.record-result + 2)) (at numbers (layout.record-result + 3))
+
 unfoldable pub signal-fits : List ℕ → ℕ → Bool
-signal-fits r i = range-fits r (23 + 5 * i) (27 + 5 * i)
+signal-fits numbers slot = all-fit numbers (signal-fields slot)
 
-unfoldable pub result-fits : List ℕ → ℕ → Bool
-result-fits r i = output-fits (at r (536 + 6 * i)) (at r (537 + 6 * i)) (at r (538 + 6 * i)) (at r (539 + 6 * i))
+unfoldable pub node-fits : List ℕ → ℕ → Bool
+node-fits numbers node =
+    all-fit numbers (node-fields node)
+    && output-fits (at numbers (result-place node + 2)) (at numbers (result-place node + 3)) (at numbers (result-place node + 4)) (at numbers (result-place node + 5))
 
--- All but the last sequence and the last accepted time are numbers of 32 bits.
 unfoldable pub record-fits : List ℕ → Bool
-record-fits r =
-    range-fits r 0 3 && range-fits r 5 22 && range-fits r 342 918
-    && kept-fits (at r 13) (at r 14) (at r 15) (at r 16) && output-fits (at r 17) (at r 18) (at r 19) (at r 20)
-    && below 64 (signal-fits r) && below 64 (result-fits r)
+record-fits numbers = head-fits numbers && below layout.store (signal-fits numbers) && below layout.nodes (node-fits numbers)
 
--- All but sequence, accepted time and delay are numbers of 32 bits; the three marks are 0 or 1.
+-- THE CALL. Its sequence, accepted time and delay are any numbers.
+abbrev pub limit-fields : List Field
+limit-fields =
+    number layout.call-ceiling-nodes
+    ∷ number layout.call-ceiling-visits
+    ∷ number layout.call-ceiling-activations
+    ∷ number layout.call-ceiling-attempts
+    ∷ number layout.call-limit-microsteps
+    ∷ number layout.call-limit-commands
+    ∷ number layout.call-limit-operations
+    ∷ mark layout.call-has-record
+    ∷ []
+
+abbrev pub event-fields : List Field
+event-fields =
+    number layout.call-event-id
+    ∷ number layout.call-kind
+    ∷ number layout.call-input
+    ∷ name layout.call-signal
+    ∷ name layout.call-outcome
+    ∷ number layout.call-data
+    ∷ name layout.call-node
+    ∷ number layout.call-visit
+    ∷ number layout.call-attempt
+    ∷ number layout.call-status
+    ∷ number layout.call-output
+    ∷ mark layout.call-has-error
+    ∷ code layout.call-error-code
+    ∷ number layout.call-error-detail
+    ∷ mark layout.call-retryable
+    ∷ number layout.call-resolution
+    ∷ number layout.call-answered
+    ∷ []
+
+abbrev pub mapping-fields : ℕ → List Field
+mapping-fields index = number (mapping-place index) ∷ number (mapping-place index + 1) ∷ code (mapping-place index + 2) ∷ number (mapping-place index + 3) ∷ number (mapping-place index + 4) ∷ []
+
 unfoldable pub call-fits : List ℕ → Bool
-call-fits c =
-    range-fits c 0 7 && range-fits c 10 21 && range-fits c 22 24 && range-fits c 26 38
-    && ltb (at c 7) 2 && ltb (at c 21) 2 && ltb (at c 24) 2
+call-fits numbers = all-fit numbers limit-fields && all-fit numbers event-fields && all-fit numbers (mapping-fields 0) && all-fit numbers (mapping-fields 1)

@@ -1,22 +1,33 @@
--- The loops that test numbers: what was seen so far is gathered, and tested once at the end.
-use mathlib.Core.Path.{_≡_, refl, sym, _∙_, ap₂}
+-- The tests of numbers as the code makes them: one test behind the other, and loops that gather what they saw.
+use mathlib.Core.Path.{_≡_, refl, sym, _∙_}
 use mathlib.Core.Bool.{Bool, true, false, _&&_}
-use Prim.Native.Nat.{ℕ, _+_, _≤_, _<_, _^_}
-use native.Mathlib.Omega.{arith}
-use lib.Dec.{ltb}
-use lib.Bits.{bitOr, or-lt, or-add-and, and-le-l, and-le-r}
-use borrow.Author.Tests.{ltb-true, ltb-false, lt-ltb, le-ltb}
-use Rattle.laws.specs.Bool.{_and_}
+use mathlib.Core.List.{List, [], _∷_}
+use Prim.Native.Nat.{ℕ, _+_, _≤_, _<_}
+use Rattle.laws.specs.Bool.{_and_, and-true, strict-and, and-left}
 use Rattle.laws.specs.Rows.{span, span-more, span-none}
-use Rattle.laws.specs.Every.{every}
-use Rattle.host.specs.Read.{is-32}
+use Rattle.laws.specs.Every.{every, below}
+use Rattle.host.specs.Read.{Field, field-fits, all-fit}
 
--- A loop from i to k with d what was gathered: p of it, and q of all that f still reads, is the whole answer w.
-pub record Gather {A B : Type 0} (p : A → Bool) (q : B → Bool) (f : ℕ → B) (k i : ℕ) (d : A) (w : Bool) : Type 0 where
-  pub left : (p d && every q (span f i k)) ≡ w
+-- FIELDS ONE BY ONE, strictly and from the left.
+abbrev pub gathered : {A : Type 0} → (A → Bool) → Bool → List A → Bool
+gathered p b [] = b
+gathered p b (x ∷ xs) = gathered p (b && p x) xs
 
-pub gather-start : {A B : Type 0} {p : A → Bool} {q : B → Bool} {f : ℕ → B} {k i : ℕ} {d : A} → p d ≡ true → Gather p q f k i d (every q (span f i k))
-gather-start e = record { left = rw e }
+gathered-every : {A : Type 0} (p : A → Bool) (b : Bool) (xs : List A) → gathered p b xs ≡ b and every p xs
+unfolding every
+gathered-every p b [] = and-true b
+gathered-every p b (x ∷ xs) = gathered-every p (b && p x) xs ∙ rw (← strict-and) (sym (and-left b (p x) (every p xs)))
+
+pub each-fits : (numbers : List ℕ) (field : Field) (fields : List Field) → gathered (field-fits numbers) (field-fits numbers field) fields ≡ all-fit numbers (field ∷ fields)
+unfolding all-fit every
+each-fits numbers field fields = gathered-every (field-fits numbers) (field-fits numbers field) fields
+
+-- A LOOP from i to k with b what was found so far: with q of all that is left it is the whole answer w.
+pub record Gather (q : ℕ → Bool) (k i : ℕ) (b : Bool) (w : Bool) : Type 0 where
+  pub left : (b && every q (span (λ n. n) i k)) ≡ w
+
+pub gather-start : {q : ℕ → Bool} {k : ℕ} → Gather q k 0 true (below k q)
+gather-start = record { left = refl }
 
 regroup : (a b c : Bool) → (a && (b and c)) ≡ ((a && b) && c)
 unfolding _and_
@@ -24,27 +35,15 @@ regroup true true c = refl
 regroup true false c = refl
 regroup false b c = refl
 
-and-true : (a : Bool) → (a && true) ≡ a
-and-true true = refl
-and-true false = refl
+strict-true : (a : Bool) → (a && true) ≡ a
+strict-true true = refl
+strict-true false = refl
 
-module _ {A B : Type 0} {p : A → Bool} {q : B → Bool} {f : ℕ → B} {k i : ℕ} {d : A} {w : Bool} (inv : Gather p q f k i d w) where
-  pub gather-more : {e : A} → p e ≡ (p d && q (f i)) → i < k → Gather p q f k (i + 1) e w
+module _ {q : ℕ → Bool} {k i : ℕ} {b w : Bool} (inv : Gather q k i b w) where
+  pub gather-more : {x : Bool} → x ≡ q i → i < k → Gather q k (i + 1) (b && x) w
   unfolding every
-  gather-more g h = record { left = rw (g, ← regroup) (rw (span-more f i k h) at (inv .left)) }
+  gather-more e h = record { left = rw (e, ← regroup) (rw (span-more (λ n. n) i k h) at (inv .left)) }
 
-  pub gather-end : k ≤ i → p d ≡ w
+  pub gather-end : k ≤ i → b ≡ w
   unfolding every
-  gather-end h = sym (and-true (p d)) ∙ (rw (span-none f i k h) at (inv .left))
-
--- Numbers together have 32 bits where each of them has.
-pub or-32 : (a b : ℕ) → is-32 (bitOr a b) ≡ (is-32 a && is-32 b)
-or-32 a b = go (is-32 a) (is-32 b) refl refl
-  where
-    above : (x : ℕ) → 2 ^ 32 ≤ x → x ≤ bitOr a b → is-32 (bitOr a b) ≡ false
-    above x g h = le-ltb (bitOr a b) (2 ^ 32) (omega arith)
-
-    go : (x y : Bool) → is-32 a ≡ x → is-32 b ≡ y → is-32 (bitOr a b) ≡ (x && y)
-    go true true e f = lt-ltb (bitOr a b) (2 ^ 32) (or-lt 32 a b (ltb-true a (2 ^ 32) e) (ltb-true b (2 ^ 32) f))
-    go true false e f = above b (ltb-false b (2 ^ 32) f) (omega (arith, or-add-and a b, and-le-l a b))
-    go false y e f = above a (ltb-false a (2 ^ 32) e) (omega (arith, or-add-and a b, and-le-r a b))
+  gather-end h = sym (strict-true b) ∙ (rw (span-none (λ n. n) i k h) at (inv .left))

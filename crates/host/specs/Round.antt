@@ -1,194 +1,258 @@
--- A record that fits is read without loss: written again, it is the numbers that were read.
-use mathlib.Core.Path.{_≡_, refl, ap}
-use mathlib.Core.Bool.{Bool, true, false, _&&_, _||_, false≢true}
-use mathlib.Core.List.{List, [], _∷_, _++_, flatMap}
-use Prim.Native.Nat.{ℕ, zero, suc, _+_, _*_, _-_, _%_, _^_, _≤_, _<_}
-use native.Mathlib.Nat.{mul-suc, mod-eq-of-lt}
+-- Numbers that fit are read without loss: a record written again is the numbers that were read, and what is read fits.
+use mathlib.Core.Path.{_≡_, refl}
+use mathlib.Core.Bool.{true}
+use mathlib.Core.List.{List}
+use Prim.Native.Nat.{ℕ, _+_, _*_, _<_}
 use native.Mathlib.Omega.{arith}
-use lib.ListN.{length}
-use lib.Dec.{ltb, eqb}
-use borrow.Author.Tests.{ltb-true, le-ltb, eqb-true, eqb-false}
-use Rattle.laws.specs.Bool.{if_then_else_, split}
-use Rattle.laws.specs.Rows.{rows, span, rows-all}
+use lib.ListN.{length, getD}
+use Rattle.laws.specs.Rows.{rows, span, length-span, rows-all}
 use Rattle.laws.specs.Every.{below}
-use Rattle.laws.specs.In.{every-in, in-span, below-at}
-use Rattle.model.specs.Answers.{output-numbers, kept-numbers}
-use Rattle.host.specs.Read.{at, narrow, error-of, output-of, kept-of, signal-of, visits-of, streak-of, result-of, record-of, is-32, range-fits, output-fits, kept-fits, signal-fits, result-fits, record-fits}
+use Rattle.laws.specs.In.{below-at}
+use Rattle.model.specs.declared.Visits.{Visits}
+use Rattle.host.specs.Layout as layout
+use Rattle.host.specs.Layout.{store, nodes, signal-width, streak-width, result-width, signal-place, visits-place, streak-place, result-place, record-signals, record-visits, record-streaks, record-results, record-length}
+use Rattle.host.specs.Read.{at, signal-of, visits-of, streak-of, result-of, position-of, invocation-of, run-result-of, record-of, event-of, mapping-of, ceilings-of, limits-of, call-of, Field, number, all-fit, head-fields, signal-fields, node-fields, limit-fields, event-fields, mapping-fields, output-fits, head-fits, signal-fits, node-fits, record-fits, call-fits}
 use Rattle.host.specs.Write.{signal-numbers, visits-numbers, streak-numbers, result-numbers, scalar-numbers, head-numbers, record-numbers}
+use Rattle.host.specs.Fits.{Number, Signal-fits, Streak-fits, Result-fits, Position-fits, Invocation-fits, Fits, Event-fits, Mapping-fits, Call-fits}
+use Rattle.host.specs.Lists.{all-span, rows-append, flat-rows}
+use Rattle.host.specs.Cases.{Below, both-of, small, name-small, narrow-below, fields-below, Output-case, Kept-case, output-case, kept-case, output-again, kept-again, output-read, kept-read}
 
-both-of : (a b : Bool) → (a && b) ≡ true → (a ≡ true) × (b ≡ true)
-both-of true b e = (refl, e)
-both-of false b e = absurd (false≢true e)
-
-small : (x : ℕ) → is-32 x ≡ true → narrow x ≡ x
-unfolding narrow
-small x e = mod-eq-of-lt (ltb-true x (2 ^ 32) e)
-
-module _ (r : List ℕ) where
-  -- a number of a range that fits
-  whole : (i k n : ℕ) → range-fits r i k ≡ true → i ≤ n → n < k → narrow (at r n) ≡ at r n
-  unfolding range-fits
-  whole i k n e g h = small (at r n) (every-in is-32 e (in-span (at r) (k - i) i k n (omega arith) g h))
-
-  -- RANGES JOINED: rows of numbers one behind the other are one range.
-  rows-append : (i j k n : ℕ) → n ≡ i + j → rows (at r) i j ++ rows (at r) n k ≡ rows (at r) i (j + k)
-  unfolding rows
-  rows-append i zero k n e =
-      let p : n ≡ i = omega arith in
-      let q : 0 + k ≡ k = omega arith in
-      rw (p, q)
-  rows-append i (suc j) k n e =
-      let q : suc j + k ≡ suc (j + k) = omega arith in
-      rw q (ap {B = List ℕ} (λ l. at r i ∷ l) (rows-append (i + 1) j k n (omega arith)))
-
-  flat : {A : Type 0} (g : A → List ℕ) (h : ℕ → A) (a w m : ℕ) → ((i : ℕ) → i < m → g (h i) ≡ rows (at r) (a + w * i) w) → (s k : ℕ) → s + k ≡ m → flatMap g (rows h s k) ≡ rows (at r) (a + w * s) (w * k)
-  unfolding flatMap rows
-  flat g h a w m f s zero e =
-      let z : w * 0 ≡ 0 = omega arith in
-      rw z
-  flat g h a w m f s (suc k) e =
-      let u : s + 1 ≡ suc s = omega arith in
-      let p : a + w * (s + 1) ≡ a + w * s + w = rw (u, mul-suc w s) (omega arith) in
-      let q : w * suc k ≡ w + w * k = rw (mul-suc w k) (omega arith) in
-      rw (f s (omega arith), flat g h a w m f (s + 1) k (omega arith), q) (rows-append (a + w * s) w (w * k) (a + w * (s + 1)) p)
-
--- A TAG AND THREE NUMBERS.
-module _ (t a b c : ℕ) (fa : narrow a ≡ a) (fb : narrow b ≡ b) (fc : narrow c ≡ c) where
-  -- a number has a meaning or is 0
-  gone : (n x : ℕ) → t ≤ n → (ltb n t || eqb x 0) ≡ true → x ≡ 0
-  gone n x h e = eqb-true x 0 (rw (le-ltb n t h) at e)
-
-  kept-back : kept-fits t a b c ≡ true → kept-numbers (kept-of t a b c) ≡ t ∷ a ∷ b ∷ c ∷ []
-  unfolding kept-fits kept-of kept-numbers error-of if_then_else_
-  kept-back e =
-      let p = both-of _ _ e in
-      let q = both-of _ _ (p .0) in
-      let s = both-of _ _ (q .0) in
-      split (eqb t 0)
-      (λ h.
-      let z = eqb-true t 0 h in
-      let x = gone 0 a (omega arith) (s .1) in
-      let y = gone 0 b (omega arith) (q .1) in
-      let w = gone 0 c (omega arith) (p .1) in
-      rw (h, z, x, y, w))
-      (λ h.
-      let n = eqb-false t 0 h in
-      let one : t ≡ 1 = tag-1 n (ltb-true t 2 (s .0)) in
-      rw (h, fa, fb, fc, one))
-    where
-      tag-1 : (t ≡ 0 → ⊥) → t < 2 → t ≡ 1
-      tag-1 n l = omega (arith, n, l)
-
-  output-back : output-fits t a b c ≡ true → output-numbers (output-of t a b c) ≡ t ∷ a ∷ b ∷ c ∷ []
-  unfolding output-fits output-of output-numbers error-of if_then_else_
-  output-back e =
-      let p = both-of _ _ e in
-      let q = both-of _ _ (p .0) in
-      let s = both-of _ _ (q .0) in
-      split (eqb t 0)
-      (λ h.
-      let z = eqb-true t 0 h in
-      let x = gone 0 a (omega arith) (s .1) in
-      let y = gone 1 b (omega arith) (q .1) in
-      let w = gone 1 c (omega arith) (p .1) in
-      rw (h, z, x, y, w))
-      (λ h. split (eqb t 1)
-      (λ g.
-      let z = eqb-true t 1 g in
-      let y = gone 1 b (omega arith) (q .1) in
-      let w = gone 1 c (omega arith) (p .1) in
-      rw (h, g, fa, y, w, z))
-      (λ g.
-      let two : t ≡ 2 = tag-2 (eqb-false t 0 h) (eqb-false t 1 g) (ltb-true t 3 (s .0)) in
-      rw (h, g, fa, fb, fc, two)))
-    where
-      tag-2 : (t ≡ 0 → ⊥) → (t ≡ 1 → ⊥) → t < 3 → t ≡ 2
-      tag-2 n m l = omega (arith, n, m, l)
+-- The fields of a group by their place in its list.
+none : Field
+none = number 0
 
 -- THE RECORD.
-module _ (r : List ℕ) (long : length r ≡ 918) (fits : record-fits r ≡ true) where
+module _ (r : List ℕ) (fits : record-fits r ≡ true) where
   record Parts : Type 0 where
-    pub first : range-fits r 0 3 ≡ true
-    pub second : range-fits r 5 22 ≡ true
-    pub third : range-fits r 342 918 ≡ true
-    pub kept : kept-fits (at r 13) (at r 14) (at r 15) (at r 16) ≡ true
-    pub output : output-fits (at r 17) (at r 18) (at r 19) (at r 20) ≡ true
-    pub signals : below 64 (signal-fits r) ≡ true
-    pub results : below 64 (result-fits r) ≡ true
+    pub head : all-fit r head-fields ≡ true
+    pub kept : Kept-case (at r layout.record-error) (at r (layout.record-error + 1)) (at r (layout.record-error + 2)) (at r (layout.record-error + 3))
+    pub output : Output-case (at r layout.record-result) (at r (layout.record-result + 1)) (at r (layout.record-result + 2)) (at r (layout.record-result + 3))
+    pub signals : below store (signal-fits r) ≡ true
+    pub nodes : below nodes (node-fits r) ≡ true
 
   parts : Parts
-  unfolding record-fits
+  unfolding record-fits head-fits
   parts =
       let a = both-of _ _ fits in
       let b = both-of _ _ (a .0) in
       let c = both-of _ _ (b .0) in
       let d = both-of _ _ (c .0) in
-      let e = both-of _ _ (d .0) in
-      let f = both-of _ _ (e .0) in
-      record { first = f .0; second = f .1; third = e .1; kept = d .1; output = c .1; signals = b .1; results = a .1 }
+      record { head = d .0; kept = kept-case _ _ _ _ (d .1); output = output-case _ _ _ _ (c .1); signals = b .1; nodes = a .1 }
 
-  low : (n : ℕ) → n < 3 → narrow (at r n) ≡ at r n
-  low n h = whole r 0 3 n (parts .first) (omega arith) h
+  -- the fields of the head, of signal i and of node i, by their places in the list
+  head-field : (n : ℕ) → n < 12 → Below r (getD head-fields n none)
+  head-field n h = fields-below r head-fields (parts .head) n none h
 
-  mid : (n : ℕ) → 5 ≤ n → n < 22 → narrow (at r n) ≡ at r n
-  mid n g h = whole r 5 22 n (parts .second) g h
+  signal-field : (i : ℕ) → i < store → (n : ℕ) → n < 4 → Below r (getD (signal-fields i) n none)
+  unfolding signal-fits
+  signal-field i h n g = fields-below r (signal-fields i) (below-at store (signal-fits r) (parts .signals) i h) n none g
 
-  high : (n : ℕ) → 342 ≤ n → n < 918 → narrow (at r n) ≡ at r n
-  high n g h = whole r 342 918 n (parts .third) g h
+  node-part : (i : ℕ) → i < nodes → (all-fit r (node-fields i) ≡ true) × (output-fits (at r (result-place i + 2)) (at r (result-place i + 3)) (at r (result-place i + 4)) (at r (result-place i + 5)) ≡ true)
+  unfolding node-fits
+  node-part i h = both-of _ _ (below-at nodes (node-fits r) (parts .nodes) i h)
 
-  scalars : scalar-numbers (record-of r) ≡ rows (at r) 0 13
-  unfolding scalar-numbers record-of rows
-  scalars = rw (low 0 (omega arith), low 1 (omega arith), low 2 (omega arith), mid 5 (omega arith) (omega arith), mid 6 (omega arith) (omega arith), mid 7 (omega arith) (omega arith), mid 8 (omega arith) (omega arith), mid 9 (omega arith) (omega arith), mid 10 (omega arith) (omega arith), mid 11 (omega arith) (omega arith), mid 12 (omega arith) (omega arith))
+  node-field : (i : ℕ) → i < nodes → (n : ℕ) → n < 5 → Below r (getD (node-fields i) n none)
+  node-field i h n g = fields-below r (node-fields i) (node-part i h .0) n none g
 
-  head : head-numbers (record-of r) ≡ rows (at r) 0 22
-  unfolding head-numbers record-of rows
+  node-output : (i : ℕ) → i < nodes → Output-case (at r (result-place i + 2)) (at r (result-place i + 3)) (at r (result-place i + 4)) (at r (result-place i + 5))
+  node-output i h = output-case _ _ _ _ (node-part i h .1)
+
+  -- WRITTEN AGAIN.
+  scalars : scalar-numbers (record-of r) ≡ rows (at r) 0 layout.record-error
+  unfolding scalar-numbers record-of position-of invocation-of rows
+  scalars =
+      rw (
+        small (at r layout.record-status) (head-field 0 (omega arith)),
+        small (at r layout.record-input) (head-field 1 (omega arith)),
+        small (at r layout.record-activations) (head-field 2 (omega arith)),
+        name-small (at r layout.record-position-node) (head-field 3 (omega arith)),
+        small (at r layout.record-position-visit) (head-field 4 (omega arith)),
+        small (at r layout.record-phase) (head-field 5 (omega arith)),
+        name-small (at r layout.record-invocation-node) (head-field 6 (omega arith)),
+        small (at r layout.record-invocation-visit) (head-field 7 (omega arith)),
+        name-small (at r layout.record-invocation-action) (head-field 8 (omega arith)),
+        small (at r layout.record-invocation-attempt) (head-field 9 (omega arith)),
+        small (at r layout.record-invocation-input) (head-field 10 (omega arith)),
+      )
+
+  head : head-numbers (record-of r) ≡ rows (at r) 0 record-signals
+  unfolding head-numbers record-of invocation-of run-result-of rows
   head =
-      let k = kept-back (at r 13) (at r 14) (at r 15) (at r 16) (mid 14 (omega arith) (omega arith)) (mid 15 (omega arith) (omega arith)) (mid 16 (omega arith) (omega arith)) (parts .kept) in
-      let o = output-back (at r 17) (at r 18) (at r 19) (at r 20) (mid 18 (omega arith) (omega arith)) (mid 19 (omega arith) (omega arith)) (mid 20 (omega arith) (omega arith)) (parts .output) in
+      let k = kept-again (parts .kept) in
+      let o = output-again (parts .output) in
       let s = scalars in
-      let n = mid 21 (omega arith) (omega arith) in
+      let n = small (at r layout.record-stored) (head-field 11 (omega arith)) in
       rw (s, k, o, n)
 
-  signal : (i : ℕ) → i < 64 → signal-numbers (signal-of r i) ≡ rows (at r) (22 + 5 * i) 5
-  unfolding signal-numbers signal-of rows signal-fits
+  signal : (i : ℕ) → i < store → signal-numbers (signal-of r i) ≡ rows (at r) (signal-place i) signal-width
+  unfolding signal-numbers signal-of rows
   signal i h =
-      let f : (n : ℕ) → 23 + 5 * i ≤ n → n < 27 + 5 * i → narrow (at r n) ≡ at r n = λ n. whole r (23 + 5 * i) (27 + 5 * i) n (below-at 64 (signal-fits r) (parts .signals) i h) in
-      let a : 22 + 5 * i + 1 ≡ 23 + 5 * i = omega arith in
-      let b : 23 + 5 * i + 1 ≡ 24 + 5 * i = omega arith in
-      let c : 24 + 5 * i + 1 ≡ 25 + 5 * i = omega arith in
-      let d : 25 + 5 * i + 1 ≡ 26 + 5 * i = omega arith in
-      rw (a, b, c, d, f (23 + 5 * i) (omega arith) (omega arith), f (24 + 5 * i) (omega arith) (omega arith), f (25 + 5 * i) (omega arith) (omega arith), f (26 + 5 * i) (omega arith) (omega arith))
+      let b : signal-place i + 1 + 1 ≡ signal-place i + 2 = omega arith in
+      let c : signal-place i + 2 + 1 ≡ signal-place i + 3 = omega arith in
+      let d : signal-place i + 3 + 1 ≡ signal-place i + 4 = omega arith in
+      rw (b, c, d, small (at r (signal-place i + 1)) (signal-field i h 0 (omega arith)), name-small (at r (signal-place i + 2)) (signal-field i h 1 (omega arith)), name-small (at r (signal-place i + 3)) (signal-field i h 2 (omega arith)), small (at r (signal-place i + 4)) (signal-field i h 3 (omega arith)))
 
-  visit : (i : ℕ) → i < 64 → visits-numbers (visits-of r i) ≡ rows (at r) (342 + 1 * i) 1
+  visit : (i : ℕ) → i < nodes → visits-numbers (visits-of r i) ≡ rows (at r) (record-visits + 1 * i) 1
   unfolding visits-numbers visits-of rows
   visit i h =
       let a : 1 * i ≡ i = omega arith in
-      rw (a, high (342 + i) (omega arith) (omega arith))
+      rw (a, small (at r (visits-place i)) (node-field i h 0 (omega arith)))
 
-  streak : (i : ℕ) → i < 64 → streak-numbers (streak-of r i) ≡ rows (at r) (406 + 2 * i) 2
+  streak : (i : ℕ) → i < nodes → streak-numbers (streak-of r i) ≡ rows (at r) (streak-place i) streak-width
   unfolding streak-numbers streak-of rows
-  streak i h =
-      let a : 406 + 2 * i + 1 ≡ 407 + 2 * i = omega arith in
-      rw (a, high (406 + 2 * i) (omega arith) (omega arith), high (407 + 2 * i) (omega arith) (omega arith))
+  streak i h = rw (name-small (at r (streak-place i)) (node-field i h 1 (omega arith)), small (at r (streak-place i + 1)) (node-field i h 2 (omega arith)))
 
-  result : (i : ℕ) → i < 64 → result-numbers (result-of r i) ≡ rows (at r) (534 + 6 * i) 6
-  unfolding result-numbers result-of rows result-fits
+  result : (i : ℕ) → i < nodes → result-numbers (result-of r i) ≡ rows (at r) (result-place i) result-width
+  unfolding result-numbers result-of rows
   result i h =
-      let t = below-at 64 (result-fits r) (parts .results) i h in
-      let f : (n : ℕ) → 534 + 6 * i ≤ n → n < 540 + 6 * i → narrow (at r n) ≡ at r n = λ n g l. high n (omega arith) (omega arith) in
-      let o = output-back (at r (536 + 6 * i)) (at r (537 + 6 * i)) (at r (538 + 6 * i)) (at r (539 + 6 * i)) (f (537 + 6 * i) (omega arith) (omega arith)) (f (538 + 6 * i) (omega arith) (omega arith)) (f (539 + 6 * i) (omega arith) (omega arith)) t in
-      let a : 534 + 6 * i + 1 ≡ 535 + 6 * i = omega arith in
-      let b : 535 + 6 * i + 1 ≡ 536 + 6 * i = omega arith in
-      let c : 536 + 6 * i + 1 ≡ 537 + 6 * i = omega arith in
-      let d : 537 + 6 * i + 1 ≡ 538 + 6 * i = omega arith in
-      let e : 538 + 6 * i + 1 ≡ 539 + 6 * i = omega arith in
-      rw (a, b, c, d, e, f (534 + 6 * i) (omega arith) (omega arith), f (535 + 6 * i) (omega arith) (omega arith), o)
+      let o = output-again (node-output i h) in
+      let b : result-place i + 1 + 1 ≡ result-place i + 2 = omega arith in
+      let c : result-place i + 2 + 1 ≡ result-place i + 3 = omega arith in
+      let d : result-place i + 3 + 1 ≡ result-place i + 4 = omega arith in
+      let e : result-place i + 4 + 1 ≡ result-place i + 5 = omega arith in
+      rw (b, c, d, e, small (at r (result-place i)) (node-field i h 3 (omega arith)), name-small (at r (result-place i + 1)) (node-field i h 4 (omega arith)), o)
 
-  pub record-back : record-numbers (record-of r) ≡ r
+  pub record-back : length r ≡ record-length → record-numbers (record-of r) ≡ r
   unfolding record-numbers record-of span
-  record-back =
-      let s = flat r signal-numbers (signal-of r) 22 5 64 signal 0 64 refl in
-      let v = flat r visits-numbers (visits-of r) 342 1 64 visit 0 64 refl in
-      let k = flat r streak-numbers (streak-of r) 406 2 64 streak 0 64 refl in
-      let e = flat r result-numbers (result-of r) 534 6 64 result 0 64 refl in
-      rw (head, s, v, k, e, rows-append r 0 22 320 22 refl, rows-append r 0 342 64 342 refl, rows-append r 0 406 128 406 refl, rows-append r 0 534 384 534 refl) (rows-all 0 r 918 long)
+  record-back long =
+      let s = flat-rows r signal-numbers (signal-of r) record-signals signal-width store signal 0 store refl in
+      let v = flat-rows r visits-numbers (visits-of r) record-visits 1 nodes visit 0 nodes refl in
+      let k = flat-rows r streak-numbers (streak-of r) record-streaks streak-width nodes streak 0 nodes refl in
+      let e = flat-rows r result-numbers (result-of r) record-results result-width nodes result 0 nodes refl in
+      rw (head, s, v, k, e, rows-append r 0 record-signals (signal-width * store) record-signals refl, rows-append r 0 record-visits nodes record-visits refl, rows-append r 0 record-streaks (streak-width * nodes) record-streaks refl, rows-append r 0 record-results (result-width * nodes) record-results refl) (rows-all 0 r record-length long)
+
+  -- WHAT IS READ FITS.
+  signal-read : (i : ℕ) → i < store → Signal-fits (signal-of r i)
+  unfolding signal-of
+  signal-read i h =
+      record {
+        event-id = narrow-below _ (signal-field i h 0 (omega arith));
+        signal = narrow-below _ (signal-field i h 1 (omega arith));
+        outcome = narrow-below _ (signal-field i h 2 (omega arith));
+        data-handle = narrow-below _ (signal-field i h 3 (omega arith));
+      }
+
+  visits-read : (i : ℕ) → i < nodes → Number (visits-of r i .count)
+  unfolding visits-of
+  visits-read i h = narrow-below _ (node-field i h 0 (omega arith))
+
+  streak-read : (i : ℕ) → i < nodes → Streak-fits (streak-of r i)
+  unfolding streak-of
+  streak-read i h = record { outcome = narrow-below _ (node-field i h 1 (omega arith)); count = narrow-below _ (node-field i h 2 (omega arith)) }
+
+  result-read : (i : ℕ) → i < nodes → Result-fits (result-of r i)
+  unfolding result-of
+  result-read i h = record { visit = narrow-below _ (node-field i h 3 (omega arith)); outcome = narrow-below _ (node-field i h 4 (omega arith)); output = output-read (node-output i h) }
+
+  position-read : Position-fits (position-of r)
+  unfolding position-of
+  position-read = record { node = narrow-below _ (head-field 3 (omega arith)); visit = narrow-below _ (head-field 4 (omega arith)) }
+
+  invocation-read : Invocation-fits (invocation-of r)
+  unfolding invocation-of
+  invocation-read =
+      record {
+        phase = narrow-below _ (head-field 5 (omega arith));
+        node = narrow-below _ (head-field 6 (omega arith));
+        visit = narrow-below _ (head-field 7 (omega arith));
+        action = narrow-below _ (head-field 8 (omega arith));
+        attempt = narrow-below _ (head-field 9 (omega arith));
+        input = narrow-below _ (head-field 10 (omega arith));
+        error = kept-read (parts .kept);
+      }
+
+  pub fits-read : Fits (record-of r)
+  unfolding record-of run-result-of
+  fits-read =
+      record {
+        signals-long = length-span (signal-of r) store;
+        visits-long = length-span (visits-of r) nodes;
+        streaks-long = length-span (streak-of r) nodes;
+        results-long = length-span (result-of r) nodes;
+        signals = all-span Signal-fits (signal-of r) store signal-read;
+        visits = all-span (λ (x : Visits). Number (x .count)) (visits-of r) nodes visits-read;
+        streaks = all-span Streak-fits (streak-of r) nodes streak-read;
+        results = all-span Result-fits (result-of r) nodes result-read;
+        signal-count = narrow-below _ (head-field 11 (omega arith));
+        status = narrow-below _ (head-field 0 (omega arith));
+        input = narrow-below _ (head-field 1 (omega arith));
+        activations = narrow-below _ (head-field 2 (omega arith));
+        position = position-read;
+        invocation = invocation-read;
+        result = output-read (parts .output);
+      }
+
+-- THE CALL.
+module _ (c : List ℕ) (fits : call-fits c ≡ true) where
+  record Call-parts : Type 0 where
+    pub limits : all-fit c limit-fields ≡ true
+    pub event : all-fit c event-fields ≡ true
+    pub first : all-fit c (mapping-fields 0) ≡ true
+    pub second : all-fit c (mapping-fields 1) ≡ true
+
+  call-parts : Call-parts
+  unfolding call-fits
+  call-parts =
+      let a = both-of _ _ fits in
+      let b = both-of _ _ (a .0) in
+      let d = both-of _ _ (b .0) in
+      record { limits = d .0; event = d .1; first = b .1; second = a .1 }
+
+  limit-field : (n : ℕ) → n < 8 → Below c (getD limit-fields n none)
+  limit-field n h = fields-below c limit-fields (call-parts .limits) n none h
+
+  event-field : (n : ℕ) → n < 17 → Below c (getD event-fields n none)
+  event-field n h = fields-below c event-fields (call-parts .event) n none h
+
+  mapping-read : (i : ℕ) → all-fit c (mapping-fields i) ≡ true → Mapping-fits (mapping-of c i)
+  unfolding mapping-of
+  mapping-read i e =
+      let field : (n : ℕ) → n < 5 → Below c (getD (mapping-fields i) n none) = λ n h. fields-below c (mapping-fields i) e n none h in
+      record {
+        kind = narrow-below _ (field 0 (omega arith));
+        value = narrow-below _ (field 1 (omega arith));
+        code = narrow-below _ (field 2 (omega arith));
+        detail = narrow-below _ (field 3 (omega arith));
+        operations = narrow-below _ (field 4 (omega arith));
+      }
+
+  event-read : Event-fits (event-of c)
+  unfolding event-of
+  event-read =
+      record {
+        event-id = narrow-below _ (event-field 0 (omega arith));
+        kind = narrow-below _ (event-field 1 (omega arith));
+        input = narrow-below _ (event-field 2 (omega arith));
+        signal = narrow-below _ (event-field 3 (omega arith));
+        outcome = narrow-below _ (event-field 4 (omega arith));
+        data-handle = narrow-below _ (event-field 5 (omega arith));
+        node = narrow-below _ (event-field 6 (omega arith));
+        visit = narrow-below _ (event-field 7 (omega arith));
+        attempt = narrow-below _ (event-field 8 (omega arith));
+        status = narrow-below _ (event-field 9 (omega arith));
+        output = narrow-below _ (event-field 10 (omega arith));
+        code = narrow-below _ (event-field 12 (omega arith));
+        detail = narrow-below _ (event-field 13 (omega arith));
+        resolution = narrow-below _ (event-field 15 (omega arith));
+      }
+
+  pub call-fits-read : Call-fits (call-of c)
+  unfolding call-of ceilings-of limits-of
+  call-fits-read =
+      record {
+        ceilings = record {
+          nodes = narrow-below _ (limit-field 0 (omega arith));
+          visits = narrow-below _ (limit-field 1 (omega arith));
+          activations = narrow-below _ (limit-field 2 (omega arith));
+          attempts = narrow-below _ (limit-field 3 (omega arith));
+        };
+        limits = record {
+          microsteps = narrow-below _ (limit-field 4 (omega arith));
+          commands = narrow-below _ (limit-field 5 (omega arith));
+          operations = narrow-below _ (limit-field 6 (omega arith));
+        };
+        event = event-read;
+        answers-long = refl;
+        answers = (mapping-read 0 (call-parts .first), (mapping-read 1 (call-parts .second), tt));
+        count = narrow-below _ (event-field 16 (omega arith));
+      }

@@ -10,50 +10,51 @@ use Rattle.model.specs.declared.State.{State}
 use Rattle.model.specs.declared.answer.Note.{Note}
 use Rattle.model.specs.declared.answer.Ending.{Ending}
 use Rattle.model.specs.declared.answer.Answer.{Answer}
-use Rattle.model.specs.declared.answer.Decision.{Decision}
+use Rattle.kernel.specs.declared.Decision.{Decision}
+use Rattle.host.specs.Layout.{record-length}
 use Rattle.model.specs.Answers.{output-numbers, kept-numbers, answer-numbers}
 
 -- Rows.
 unfoldable pub signal-numbers : BufferedSignal → List ℕ
-signal-numbers x = x .sequence ∷ x .«event_id» ∷ x .signal ∷ x .outcome ∷ x .«data» ∷ []
+signal-numbers signal = signal .sequence ∷ signal .«event_id» ∷ signal .signal ∷ signal .outcome ∷ signal .«data» ∷ []
 
 unfoldable pub visits-numbers : Visits → List ℕ
-visits-numbers x = x .count ∷ []
+visits-numbers visits = visits .count ∷ []
 
 unfoldable pub streak-numbers : Streak → List ℕ
-streak-numbers x = x .outcome ∷ x .count ∷ []
+streak-numbers streak = streak .outcome ∷ streak .count ∷ []
 
 unfoldable pub result-numbers : NodeResult → List ℕ
-result-numbers x = x .visit ∷ x .outcome ∷ output-numbers (x .output)
+result-numbers result = result .visit ∷ result .outcome ∷ output-numbers (result .output)
 
 unfoldable pub note-numbers : Note → List ℕ
-note-numbers x = x .code ∷ x .node ∷ x .a ∷ x .b ∷ x .c ∷ []
+note-numbers note = note .code ∷ note .node ∷ note .a ∷ note .b ∷ note .c ∷ []
 
 unfoldable pub ending-numbers : Ending → List ℕ
-ending-numbers x = x .sequence ∷ x .ending ∷ []
+ending-numbers ending = ending .sequence ∷ ending .ending ∷ []
 
--- THE RUN RECORD: 918 numbers.
+-- THE RUN RECORD.
 unfoldable pub scalar-numbers : State → List ℕ
-scalar-numbers s =
-    s .status ∷ s .input ∷ s .activations ∷ s .«last_sequence» ∷ s .«last_accepted_at» ∷ s .position .node ∷ s .position .visit
-    ∷ s .invocation .phase ∷ s .invocation .node ∷ s .invocation .visit ∷ s .invocation .action ∷ s .invocation .attempt ∷ s .invocation .input ∷ []
+scalar-numbers state =
+    state .status ∷ state .input ∷ state .activations ∷ state .«last_sequence» ∷ state .«last_accepted_at» ∷ state .position .node ∷ state .position .visit
+    ∷ state .invocation .phase ∷ state .invocation .node ∷ state .invocation .visit ∷ state .invocation .action ∷ state .invocation .attempt ∷ state .invocation .input ∷ []
 
 -- up to the rows
 unfoldable pub head-numbers : State → List ℕ
-head-numbers s = scalar-numbers s ++ kept-numbers (s .invocation .error) ++ output-numbers (s .result .output) ++ (s .«signal_count» ∷ [])
+head-numbers state = scalar-numbers state ++ kept-numbers (state .invocation .error) ++ output-numbers (state .result .output) ++ (state .«signal_count» ∷ [])
 
 unfoldable pub record-numbers : State → List ℕ
-record-numbers s =
-    head-numbers s ++ flatMap signal-numbers (s .signals) ++ flatMap visits-numbers (s .visits)
-    ++ flatMap streak-numbers (s .streaks) ++ flatMap result-numbers (s .results)
+record-numbers state =
+    head-numbers state ++ flatMap signal-numbers (state .signals) ++ flatMap visits-numbers (state .visits)
+    ++ flatMap streak-numbers (state .streaks) ++ flatMap result-numbers (state .results)
 
--- THE ANSWER: 1386 numbers. A refusal has no record.
+-- THE ANSWER. A refusal has no record.
 unfoldable pub state-numbers : Answer → State → List ℕ
-state-numbers (Answer.Next o k) s = record-numbers s
-state-numbers (Answer.Wants n f b) s = record-numbers s
-state-numbers (Answer.Refused k i) s = replicate 918 0
+state-numbers (Answer.Next order microsteps) state = record-numbers state
+state-numbers (Answer.Wants node field from) state = record-numbers state
+state-numbers (Answer.Refused number item) state = replicate record-length 0
 
 unfoldable pub decision-numbers : Decision → List ℕ
-decision-numbers d =
-    answer-numbers (d .answer) ++ (d .«note_count» ∷ d .«ending_count» ∷ [])
-    ++ flatMap note-numbers (d .notes) ++ flatMap ending-numbers (d .endings) ++ state-numbers (d .answer) (d .state)
+decision-numbers decision =
+    answer-numbers (decision .answer) ++ (decision .«note_count» ∷ decision .«ending_count» ∷ [])
+    ++ flatMap note-numbers (decision .notes) ++ flatMap ending-numbers (decision .endings) ++ state-numbers (decision .answer) (decision .state)

@@ -1,5 +1,5 @@
 -- How many numbers each part of an answer has, and parts written one behind the other.
-use mathlib.Core.Path.{_≡_, refl, sym, _∙_, ap}
+use mathlib.Core.Path.{_≡_, refl, _∙_, ap}
 use mathlib.Core.List.{List, [], _∷_, _++_, flatMap}
 use Prim.Native.Nat.{ℕ, _+_, _*_, _≤_}
 use native.Mathlib.Omega.{arith}
@@ -19,15 +19,16 @@ use Rattle.model.specs.declared.answer.Note.{Note}
 use Rattle.model.specs.declared.answer.Ending.{Ending}
 use Rattle.model.specs.declared.answer.Answer.{Answer}
 use Rattle.model.specs.Answers.{output-numbers, kept-numbers, params-numbers, order-numbers, answer-numbers}
+use Rattle.host.specs.Layout.{store, nodes, signal-width, streak-width, result-width, note-width, ending-width, output-width, error-width, record-error, record-signals, record-length, answer-noted}
 use Rattle.host.specs.Write.{signal-numbers, visits-numbers, streak-numbers, result-numbers, note-numbers, ending-numbers, scalar-numbers, head-numbers, record-numbers, state-numbers}
 
-pub length-output : (x : Output) → length (output-numbers x) ≡ 4
+pub length-output : (x : Output) → length (output-numbers x) ≡ output-width
 unfolding output-numbers
 length-output Output.Nothing = refl
 length-output (Output.Handle x) = refl
 length-output (Output.Error e) = refl
 
-pub length-kept : (x : Kept) → length (kept-numbers x) ≡ 4
+pub length-kept : (x : Kept) → length (kept-numbers x) ≡ error-width
 unfolding kept-numbers
 length-kept Kept.Nothing = refl
 length-kept (Kept.Error e) = refl
@@ -43,13 +44,13 @@ length-order Order.Nothing = refl
 length-order (Order.Schedule x) = rw (length-params (x .params))
 length-order (Order.Retry x) = refl
 
-pub length-answer : (x : Answer) → length (answer-numbers x) ≡ 11
+pub length-answer : (x : Answer) → length (answer-numbers x) ≡ answer-noted
 unfolding answer-numbers
 length-answer (Answer.Next o k) = rw (length-order o)
 length-answer (Answer.Wants n f b) = refl
 length-answer (Answer.Refused k i) = refl
 
-pub length-signal : (x : BufferedSignal) → length (signal-numbers x) ≡ 5
+pub length-signal : (x : BufferedSignal) → length (signal-numbers x) ≡ signal-width
 unfolding signal-numbers
 length-signal x = refl
 
@@ -57,11 +58,11 @@ pub length-visits : (x : Visits) → length (visits-numbers x) ≡ 1
 unfolding visits-numbers
 length-visits x = refl
 
-pub length-streak : (x : Streak) → length (streak-numbers x) ≡ 2
+pub length-streak : (x : Streak) → length (streak-numbers x) ≡ streak-width
 unfolding streak-numbers
 length-streak x = refl
 
-pub length-result : (x : NodeResult) → length (result-numbers x) ≡ 6
+pub length-result : (x : NodeResult) → length (result-numbers x) ≡ result-width
 unfolding result-numbers
 length-result x = rw (length-output (x .output))
 
@@ -70,19 +71,19 @@ pub result-row : (x : NodeResult) (o : List ℕ) → o ≡ output-numbers (x .ou
 unfolding result-numbers rows
 result-row x o e = ap (λ (r : List ℕ). x .visit ∷ x .outcome ∷ r) (rows-all 0 o 4 (rw e (length-output (x .output))) ∙ e)
 
-pub length-note : (x : Note) → length (note-numbers x) ≡ 5
+pub length-note : (x : Note) → length (note-numbers x) ≡ note-width
 unfolding note-numbers
 length-note x = refl
 
-pub length-ending : (x : Ending) → length (ending-numbers x) ≡ 2
+pub length-ending : (x : Ending) → length (ending-numbers x) ≡ ending-width
 unfolding ending-numbers
 length-ending x = refl
 
-pub length-scalars : (s : State) → length (scalar-numbers s) ≡ 13
+pub length-scalars : (s : State) → length (scalar-numbers s) ≡ record-error
 unfolding scalar-numbers
 length-scalars s = refl
 
-pub length-head : (s : State) → length (head-numbers s) ≡ 22
+pub length-head : (s : State) → length (head-numbers s) ≡ record-signals
 unfolding head-numbers
 length-head s = simp (length-append, length-scalars, length-kept, length-output)
 
@@ -92,25 +93,25 @@ flat-size {A} f n {w} wide xs e = length-flat f w wide xs ∙ rw e
 
 -- A record whose arrays are whole.
 pub record Whole (s : State) : Type 0 where
-  pub signals : length (s .signals) ≡ 64
-  pub visits : length (s .visits) ≡ 64
-  pub streaks : length (s .streaks) ≡ 64
-  pub results : length (s .results) ≡ 64
+  pub signals : length (s .signals) ≡ store
+  pub visits : length (s .visits) ≡ nodes
+  pub streaks : length (s .streaks) ≡ nodes
+  pub results : length (s .results) ≡ nodes
 
-pub length-record : (s : State) → Whole s → length (record-numbers s) ≡ 918
+pub length-record : (s : State) → Whole s → length (record-numbers s) ≡ record-length
 unfolding record-numbers
 length-record s h =
-    let a = flat-size signal-numbers 64 length-signal (s .signals) (h .signals) in
-    let b = flat-size visits-numbers 64 length-visits (s .visits) (h .visits) in
-    let c = flat-size streak-numbers 64 length-streak (s .streaks) (h .streaks) in
-    let d = flat-size result-numbers 64 length-result (s .results) (h .results) in
+    let a = flat-size signal-numbers store length-signal (s .signals) (h .signals) in
+    let b = flat-size visits-numbers nodes length-visits (s .visits) (h .visits) in
+    let c = flat-size streak-numbers nodes length-streak (s .streaks) (h .streaks) in
+    let d = flat-size result-numbers nodes length-result (s .results) (h .results) in
     simp (length-append, length-head, a, b, c, d)
 
-pub length-state : (x : Answer) (s : State) → Whole s → length (state-numbers x s) ≡ 918
+pub length-state : (x : Answer) (s : State) → Whole s → length (state-numbers x s) ≡ record-length
 unfolding state-numbers
 length-state (Answer.Next o k) s h = length-record s h
 length-state (Answer.Wants n f b) s h = length-record s h
-length-state (Answer.Refused k i) s h = length-replicate {A = ℕ} 918 0
+length-state (Answer.Refused k i) s h = length-replicate {A = ℕ} record-length 0
 
 -- PARTS IN A ROW. In l, which was l₀, ys stand from a place on, k numbers.
 pub record Wrote (l₀ : List ℕ) (at : ℕ) (ys : List ℕ) (k : ℕ) (l : List ℕ) : Type 0 where

@@ -1,4 +1,5 @@
 // The boundary for hosts: a call, a run record and an answer as plain numbers (docs/NUMBERS.md).
+pub mod layout;
 pub mod read;
 mod write;
 
@@ -7,9 +8,9 @@ use crate::read::read_call;
 use crate::read::read_record;
 use crate::read::record_fits;
 use crate::write::write_decision;
+use graph::Ceilings;
 use graph::Verdict;
-use workflow::Ceilings;
-use workflow::NUMBERS;
+use workflow::layout::NUMBERS;
 ghost use mathlib.Core.Path.{_≡_};
 ghost use lib.ListN.{length};
 ghost use Rattle.workflow.specs.View.{workflow};
@@ -17,14 +18,14 @@ ghost use Rattle.graph.specs.Verdict.{verdict};
 ghost use Rattle.host.specs.Host.{receipt, answered, verdict-number};
 
 // Whether an answer is written, and else why not. The record is looked at only where the call says that one goes with it.
-fn receipt(call: &[u64; 38], given: &[u64; 918], room: usize) -> u32
+fn receipt(call: &[u64; layout::CALL], given: &[u64; layout::RECORD], room: usize) -> u32
     ensures { λ r. ⌜ r ≡ receipt (now (call .entry)) (now (given .entry)) room ⌝ }
 {
-    if room < 1386 {
+    if room < layout::ANSWER {
         return 1;
     }
     if call_fits(call) {
-        if call[7] == 1 {
+        if call[layout::CALL_HAS_RECORD] == 1 {
             if record_fits(given) {
                 return 0;
             }
@@ -39,8 +40,8 @@ fn receipt(call: &[u64; 38], given: &[u64; 918], room: usize) -> u32
 #[no_mangle]
 pub extern "C" fn kuxhoveza_transition(
     sheet: &[u32; NUMBERS],
-    call: &[u64; 38],
-    given: &[u64; 918],
+    call: &[u64; layout::CALL],
+    given: &[u64; layout::RECORD],
     answer: &mut [u64],
 ) -> u32
     ensures { λ r. ⌜ r ≡ receipt (now (call .entry)) (now (given .entry)) (length (now (answer .entry))) ⌝ }
@@ -50,7 +51,7 @@ pub extern "C" fn kuxhoveza_transition(
     if receipt == 0 {
         let s = read_record(given);
         let c = read_call(call);
-        let d = kernel::transition(sheet, call[7] == 1, s, c);
+        let d = kernel::transition(sheet, call[layout::CALL_HAS_RECORD] == 1, s, c);
         write_decision(answer, d);
     }
     receipt

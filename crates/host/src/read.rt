@@ -1,5 +1,8 @@
 // A run record and a call from their numbers (docs/NUMBERS.md). A number that its field can't hold is read modulo 2^32.
+use crate::layout;
+use graph::Ceilings;
 use kernel::Call;
+use kernel::Limits;
 use model::BufferedSignal;
 use model::ErrorInfo;
 use model::InvocationState;
@@ -12,21 +15,38 @@ use model::State;
 use model::Streak;
 use model::Visits;
 use model::event::Event;
-use model::event::Limits;
 use model::event::Mapping;
 use model::event::Mappings;
-use workflow::Ceilings;
 ghost use mathlib.Core.Path.{_≡_};
-ghost use Prim.Native.Nat.{_≤_, _<_};
+ghost use Prim.Native.Nat.{_<_};
 ghost use lib.ListN.{length};
 ghost use Rattle.laws.specs.Rows.{span};
 ghost use Rattle.laws.specs.Every.{below};
-ghost use Rattle.host.specs.Read.{narrow, error-of, output-of, kept-of, signal-of, visits-of, streak-of, result-of, record-of, event-of, mapping-of, call-of, range-fits, output-fits, kept-fits, signal-fits, result-fits, record-fits, call-fits};
+ghost use Rattle.host.specs.Layout.{store, nodes, mappings};
+ghost use Rattle.host.specs.Read.{at, narrow, error-of, output-of, kept-of, signal-of, visits-of, streak-of, result-of, position-of, invocation-of, run-result-of, record-of, event-of, mapping-of, ceilings-of, limits-of, call-of, all-fit, limit-fields, event-fields, mapping-fields, head-fields, error-fits, output-fits, kept-fits, head-fits, signal-fits, node-fits, record-fits, call-fits};
+
+// What a field's number must be below: any number; the name of a node, an action, a signal or an outcome; the code of an
+// error; a mark.
+const NUMBER: u64 = 0x1_0000_0000;
+
+const NAME: u64 = 256;
+
+const CODE: u64 = 65536;
+
+const MARK: u64 = 2;
 
 fn narrow(x: u64) -> u32
     ensures { λ r. ⌜ r ≡ narrow x ⌝ }
 {
-    (x % 0x1_0000_0000) as u32
+    (x % NUMBER) as u32
+}
+
+// The number at a place.
+fn number_at(xs: &[u64], place: usize) -> u32
+    requires { ⌜ place < length (now xs) ⌝ }
+    ensures { λ r. ⌜ r ≡ narrow (at (now (xs .entry)) place) ⌝ }
+{
+    narrow(xs[place])
 }
 
 fn error(code: u64, node: u64, detail: u64) -> ErrorInfo
@@ -62,301 +82,431 @@ fn kept(tag: u64, a: u64, b: u64, c: u64) -> Kept
 
 // Rows.
 
-fn signal(xs: &[u64; 918], i: usize) -> BufferedSignal
-    requires { ⌜ i < 64 ⌝ }
+fn signal(xs: &[u64; layout::RECORD], i: usize) -> BufferedSignal
+    requires { ⌜ i < store ⌝ }
     ensures { λ r. ⌜ r ≡ signal-of (now (xs .entry)) i ⌝ }
 {
-    let k = 5 * i;
+    let k = layout::RECORD_SIGNALS + layout::SIGNAL_WIDTH * i;
     BufferedSignal {
-        sequence: xs[22 + k],
-        event_id: narrow(xs[23 + k]),
-        signal: narrow(xs[24 + k]),
-        outcome: narrow(xs[25 + k]),
-        data: narrow(xs[26 + k]),
+        sequence: xs[k],
+        event_id: number_at(xs, k + 1),
+        signal: number_at(xs, k + 2),
+        outcome: number_at(xs, k + 3),
+        data: number_at(xs, k + 4),
     }
 }
 
-fn visits_of(xs: &[u64; 918], i: usize) -> Visits
-    requires { ⌜ i < 64 ⌝ }
+fn visits_of(xs: &[u64; layout::RECORD], i: usize) -> Visits
+    requires { ⌜ i < nodes ⌝ }
     ensures { λ r. ⌜ r ≡ visits-of (now (xs .entry)) i ⌝ }
 {
     Visits {
-        count: narrow(xs[342 + i]),
+        count: number_at(xs, layout::RECORD_VISITS + i),
     }
 }
 
-fn streak(xs: &[u64; 918], i: usize) -> Streak
-    requires { ⌜ i < 64 ⌝ }
+fn streak(xs: &[u64; layout::RECORD], i: usize) -> Streak
+    requires { ⌜ i < nodes ⌝ }
     ensures { λ r. ⌜ r ≡ streak-of (now (xs .entry)) i ⌝ }
 {
-    let k = 2 * i;
+    let k = layout::RECORD_STREAKS + layout::STREAK_WIDTH * i;
     Streak {
-        outcome: narrow(xs[406 + k]),
-        count: narrow(xs[407 + k]),
+        outcome: number_at(xs, k),
+        count: number_at(xs, k + 1),
     }
 }
 
-fn result(xs: &[u64; 918], i: usize) -> NodeResult
-    requires { ⌜ i < 64 ⌝ }
+fn result(xs: &[u64; layout::RECORD], i: usize) -> NodeResult
+    requires { ⌜ i < nodes ⌝ }
     ensures { λ r. ⌜ r ≡ result-of (now (xs .entry)) i ⌝ }
 {
-    let k = 6 * i;
-    let output = output(xs[536 + k], xs[537 + k], xs[538 + k], xs[539 + k]);
+    let k = layout::RECORD_RESULTS + layout::RESULT_WIDTH * i;
+    let output = output(xs[k + 2], xs[k + 3], xs[k + 4], xs[k + 5]);
     NodeResult {
-        visit: narrow(xs[534 + k]),
-        outcome: narrow(xs[535 + k]),
+        visit: number_at(xs, k),
+        outcome: number_at(xs, k + 1),
         output,
     }
 }
 
-fn signals(xs: &[u64; 918]) -> [BufferedSignal; 64]
-    ensures { λ r. ⌜ r ≡ span (signal-of (now (xs .entry))) 0 64 ⌝ }
+fn signals(xs: &[u64; layout::RECORD]) -> [BufferedSignal; layout::STORE]
+    ensures { λ r. ⌜ r ≡ span (signal-of (now (xs .entry))) 0 store ⌝ }
 {
-    let mut a = [BufferedSignal::none(); 64];
+    let mut a = [BufferedSignal::none(); layout::STORE];
     let mut i: usize = 0;
-    while i < 64 {
+    while i < layout::STORE {
         a[i] = signal(xs, i);
         i += 1;
     }
     a
 }
 
-fn visits(xs: &[u64; 918]) -> [Visits; 64]
-    ensures { λ r. ⌜ r ≡ span (visits-of (now (xs .entry))) 0 64 ⌝ }
+fn visits(xs: &[u64; layout::RECORD]) -> [Visits; layout::NODES]
+    ensures { λ r. ⌜ r ≡ span (visits-of (now (xs .entry))) 0 nodes ⌝ }
 {
-    let mut a = [Visits { count: 0 }; 64];
+    let mut a = [Visits { count: 0 }; layout::NODES];
     let mut i: usize = 0;
-    while i < 64 {
+    while i < layout::NODES {
         a[i] = visits_of(xs, i);
         i += 1;
     }
     a
 }
 
-fn streaks(xs: &[u64; 918]) -> [Streak; 64]
-    ensures { λ r. ⌜ r ≡ span (streak-of (now (xs .entry))) 0 64 ⌝ }
+fn streaks(xs: &[u64; layout::RECORD]) -> [Streak; layout::NODES]
+    ensures { λ r. ⌜ r ≡ span (streak-of (now (xs .entry))) 0 nodes ⌝ }
 {
     let mut a = [Streak {
         outcome: 0,
         count: 0,
-    }; 64];
+    }; layout::NODES];
     let mut i: usize = 0;
-    while i < 64 {
+    while i < layout::NODES {
         a[i] = streak(xs, i);
         i += 1;
     }
     a
 }
 
-fn results(xs: &[u64; 918]) -> [NodeResult; 64]
-    ensures { λ r. ⌜ r ≡ span (result-of (now (xs .entry))) 0 64 ⌝ }
+fn results(xs: &[u64; layout::RECORD]) -> [NodeResult; layout::NODES]
+    ensures { λ r. ⌜ r ≡ span (result-of (now (xs .entry))) 0 nodes ⌝ }
 {
     let mut a = [NodeResult {
         visit: 0,
         outcome: 0,
         output: Output::Nothing,
-    }; 64];
+    }; layout::NODES];
     let mut i: usize = 0;
-    while i < 64 {
+    while i < layout::NODES {
         a[i] = result(xs, i);
         i += 1;
     }
     a
 }
 
-pub fn read_record(xs: &[u64; 918]) -> State
+// The run record.
+
+fn position(xs: &[u64; layout::RECORD]) -> Position
+    ensures { λ r. ⌜ r ≡ position-of (now (xs .entry)) ⌝ }
+{
+    Position {
+        node: number_at(xs, layout::RECORD_POSITION_NODE),
+        visit: number_at(xs, layout::RECORD_POSITION_VISIT),
+    }
+}
+
+fn invocation(xs: &[u64; layout::RECORD]) -> InvocationState
+    ensures { λ r. ⌜ r ≡ invocation-of (now (xs .entry)) ⌝ }
+{
+    let error = kept(
+        xs[layout::RECORD_ERROR],
+        xs[layout::RECORD_ERROR + 1],
+        xs[layout::RECORD_ERROR + 2],
+        xs[layout::RECORD_ERROR + 3],
+    );
+    InvocationState {
+        phase: number_at(xs, layout::RECORD_PHASE),
+        node: number_at(xs, layout::RECORD_INVOCATION_NODE),
+        visit: number_at(xs, layout::RECORD_INVOCATION_VISIT),
+        action: number_at(xs, layout::RECORD_INVOCATION_ACTION),
+        attempt: number_at(xs, layout::RECORD_INVOCATION_ATTEMPT),
+        input: number_at(xs, layout::RECORD_INVOCATION_INPUT),
+        error,
+    }
+}
+
+fn run_result(xs: &[u64; layout::RECORD]) -> RunResult
+    ensures { λ r. ⌜ r ≡ run-result-of (now (xs .entry)) ⌝ }
+{
+    let output = output(
+        xs[layout::RECORD_RESULT],
+        xs[layout::RECORD_RESULT + 1],
+        xs[layout::RECORD_RESULT + 2],
+        xs[layout::RECORD_RESULT + 3],
+    );
+    RunResult { output }
+}
+
+pub fn read_record(xs: &[u64; layout::RECORD]) -> State
     ensures { λ r. ⌜ r ≡ record-of (now (xs .entry)) ⌝ }
 {
     let signals = signals(xs);
     let visits = visits(xs);
     let streaks = streaks(xs);
     let results = results(xs);
-    let error = kept(xs[13], xs[14], xs[15], xs[16]);
-    let output = output(xs[17], xs[18], xs[19], xs[20]);
+    let position = position(xs);
+    let invocation = invocation(xs);
+    let result = run_result(xs);
     State {
         signals,
         visits,
         streaks,
         results,
-        last_sequence: xs[3],
-        last_accepted_at: xs[4],
-        signal_count: narrow(xs[21]),
-        status: narrow(xs[0]),
-        input: narrow(xs[1]),
-        activations: narrow(xs[2]),
-        position: Position {
-            node: narrow(xs[5]),
-            visit: narrow(xs[6]),
-        },
-        invocation: InvocationState {
-            phase: narrow(xs[7]),
-            node: narrow(xs[8]),
-            visit: narrow(xs[9]),
-            action: narrow(xs[10]),
-            attempt: narrow(xs[11]),
-            input: narrow(xs[12]),
-            error,
-        },
-        result: RunResult { output },
+        last_sequence: xs[layout::RECORD_LAST_SEQUENCE],
+        last_accepted_at: xs[layout::RECORD_LAST_ACCEPTED_AT],
+        signal_count: number_at(xs, layout::RECORD_STORED),
+        status: number_at(xs, layout::RECORD_STATUS),
+        input: number_at(xs, layout::RECORD_INPUT),
+        activations: number_at(xs, layout::RECORD_ACTIVATIONS),
+        position,
+        invocation,
+        result,
     }
 }
 
-fn event(c: &[u64; 38]) -> Event
+// The call.
+
+fn event(c: &[u64; layout::CALL]) -> Event
     ensures { λ r. ⌜ r ≡ event-of (now (c .entry)) ⌝ }
 {
     Event {
-        sequence: c[8],
-        accepted_at: c[9],
-        delay: c[25],
-        event_id: narrow(c[10]),
-        kind: narrow(c[11]),
-        input: narrow(c[12]),
-        signal: narrow(c[13]),
-        outcome: narrow(c[14]),
-        data: narrow(c[15]),
-        node: narrow(c[16]),
-        visit: narrow(c[17]),
-        attempt: narrow(c[18]),
-        status: narrow(c[19]),
-        output: narrow(c[20]),
-        code: narrow(c[22]),
-        detail: narrow(c[23]),
-        resolution: narrow(c[26]),
-        has_error: c[21] == 1,
-        retryable: c[24] == 1,
+        sequence: c[layout::CALL_SEQUENCE],
+        accepted_at: c[layout::CALL_ACCEPTED_AT],
+        delay: c[layout::CALL_DELAY],
+        event_id: number_at(c, layout::CALL_EVENT_ID),
+        kind: number_at(c, layout::CALL_KIND),
+        input: number_at(c, layout::CALL_INPUT),
+        signal: number_at(c, layout::CALL_SIGNAL),
+        outcome: number_at(c, layout::CALL_OUTCOME),
+        data: number_at(c, layout::CALL_DATA),
+        node: number_at(c, layout::CALL_NODE),
+        visit: number_at(c, layout::CALL_VISIT),
+        attempt: number_at(c, layout::CALL_ATTEMPT),
+        status: number_at(c, layout::CALL_STATUS),
+        output: number_at(c, layout::CALL_OUTPUT),
+        code: number_at(c, layout::CALL_ERROR_CODE),
+        detail: number_at(c, layout::CALL_ERROR_DETAIL),
+        resolution: number_at(c, layout::CALL_RESOLUTION),
+        has_error: c[layout::CALL_HAS_ERROR] == 1,
+        retryable: c[layout::CALL_RETRYABLE] == 1,
     }
 }
 
-// The mapping answer whose numbers begin at k.
-fn mapping(c: &[u64; 38], k: usize) -> Mapping
-    requires { ⌜ k ≤ 33 ⌝ }
-    ensures { λ r. ⌜ r ≡ mapping-of (now (c .entry)) k ⌝ }
+fn mapping(c: &[u64; layout::CALL], i: usize) -> Mapping
+    requires { ⌜ i < mappings ⌝ }
+    ensures { λ r. ⌜ r ≡ mapping-of (now (c .entry)) i ⌝ }
 {
+    let k = layout::CALL_MAPPINGS + layout::MAPPING_WIDTH * i;
     Mapping {
-        kind: narrow(c[k]),
-        value: narrow(c[k + 1]),
-        code: narrow(c[k + 2]),
-        detail: narrow(c[k + 3]),
-        operations: narrow(c[k + 4]),
+        kind: number_at(c, k),
+        value: number_at(c, k + 1),
+        code: number_at(c, k + 2),
+        detail: number_at(c, k + 3),
+        operations: number_at(c, k + 4),
     }
 }
 
-pub fn read_call(c: &[u64; 38]) -> Call
+fn ceilings(c: &[u64; layout::CALL]) -> Ceilings
+    ensures { λ r. ⌜ r ≡ ceilings-of (now (c .entry)) ⌝ }
+{
+    Ceilings {
+        nodes: number_at(c, layout::CALL_CEILING_NODES),
+        visits: number_at(c, layout::CALL_CEILING_VISITS),
+        activations: number_at(c, layout::CALL_CEILING_ACTIVATIONS),
+        attempts: number_at(c, layout::CALL_CEILING_ATTEMPTS),
+    }
+}
+
+fn limits(c: &[u64; layout::CALL]) -> Limits
+    ensures { λ r. ⌜ r ≡ limits-of (now (c .entry)) ⌝ }
+{
+    Limits {
+        microsteps: number_at(c, layout::CALL_LIMIT_MICROSTEPS),
+        commands: number_at(c, layout::CALL_LIMIT_COMMANDS),
+        operations: number_at(c, layout::CALL_LIMIT_OPERATIONS),
+    }
+}
+
+pub fn read_call(c: &[u64; layout::CALL]) -> Call
     ensures { λ r. ⌜ r ≡ call-of (now (c .entry)) ⌝ }
 {
+    let ceilings = ceilings(c);
+    let limits = limits(c);
     let event = event(c);
-    let first = mapping(c, 28);
-    let second = mapping(c, 33);
+    let first = mapping(c, 0);
+    let second = mapping(c, 1);
     Call {
-        ceilings: Ceilings {
-            nodes: narrow(c[0]),
-            visits: narrow(c[1]),
-            activations: narrow(c[2]),
-            attempts: narrow(c[3]),
-        },
-        limits: Limits {
-            microsteps: narrow(c[4]),
-            commands: narrow(c[5]),
-            operations: narrow(c[6]),
-        },
+        ceilings,
+        limits,
         event,
         mappings: Mappings {
             answers: [first, second],
-            count: narrow(c[27]),
+            count: number_at(c, layout::CALL_ANSWERED),
         },
     }
 }
 
-// What fields can hold.
+// What fields can hold. Only a tag makes a branch: most outputs of a record are nothing.
 
-// One pass without a test, so that the compiler makes it a vector loop.
-fn range_fits(xs: &[u64], start: usize, end: usize) -> bool
-    requires { ⌜ end ≤ length (now xs) ⌝ }
-    ensures { λ r. ⌜ r ≡ range-fits (now (xs .entry)) start end ⌝ }
+fn error_fits(code: u64, node: u64, detail: u64) -> bool
+    ensures { λ r. ⌜ r ≡ error-fits code node detail ⌝ }
 {
-    let mut dirt: u64 = 0;
-    let mut i = start;
-    while i < end {
-        dirt = dirt | xs[i];
-        i += 1;
-    }
-    dirt < 0x1_0000_0000
+    (code < CODE) & (node < NAME) & (detail < NUMBER)
 }
 
 fn output_fits(tag: u64, a: u64, b: u64, c: u64) -> bool
     ensures { λ r. ⌜ r ≡ output-fits tag a b c ⌝ }
 {
-    (tag < 3) & ((0 < tag) | (a == 0)) & ((1 < tag) | (b == 0)) & ((1 < tag) | (c == 0))
+    if tag == 0 {
+        return (a == 0) & (b == 0) & (c == 0);
+    }
+    if tag == 1 {
+        return (a < NUMBER) & (b == 0) & (c == 0);
+    }
+    (tag == 2) & error_fits(a, b, c)
 }
 
 fn kept_fits(tag: u64, a: u64, b: u64, c: u64) -> bool
     ensures { λ r. ⌜ r ≡ kept-fits tag a b c ⌝ }
 {
-    (tag < 2) & ((0 < tag) | (a == 0)) & ((0 < tag) | (b == 0)) & ((0 < tag) | (c == 0))
+    if tag == 0 {
+        return (a == 0) & (b == 0) & (c == 0);
+    }
+    (tag == 1) & error_fits(a, b, c)
 }
 
-fn signal_fits(xs: &[u64; 918], i: usize) -> bool
-    requires { ⌜ i < 64 ⌝ }
+// The single numbers of a record.
+fn scalars_fit(xs: &[u64; layout::RECORD]) -> bool
+    ensures { λ r. ⌜ r ≡ all-fit (now (xs .entry)) head-fields ⌝ }
+{
+    (xs[layout::RECORD_STATUS] < NUMBER)
+        & (xs[layout::RECORD_INPUT] < NUMBER)
+        & (xs[layout::RECORD_ACTIVATIONS] < NUMBER)
+        & (xs[layout::RECORD_POSITION_NODE] < NAME)
+        & (xs[layout::RECORD_POSITION_VISIT] < NUMBER)
+        & (xs[layout::RECORD_PHASE] < NUMBER)
+        & (xs[layout::RECORD_INVOCATION_NODE] < NAME)
+        & (xs[layout::RECORD_INVOCATION_VISIT] < NUMBER)
+        & (xs[layout::RECORD_INVOCATION_ACTION] < NAME)
+        & (xs[layout::RECORD_INVOCATION_ATTEMPT] < NUMBER)
+        & (xs[layout::RECORD_INVOCATION_INPUT] < NUMBER)
+        & (xs[layout::RECORD_STORED] < NUMBER)
+}
+
+// A record up to its rows.
+fn head_fits(xs: &[u64; layout::RECORD]) -> bool
+    ensures { λ r. ⌜ r ≡ head-fits (now (xs .entry)) ⌝ }
+{
+    scalars_fit(xs)
+        & kept_fits(
+            xs[layout::RECORD_ERROR],
+            xs[layout::RECORD_ERROR + 1],
+            xs[layout::RECORD_ERROR + 2],
+            xs[layout::RECORD_ERROR + 3],
+        )
+        & output_fits(
+            xs[layout::RECORD_RESULT],
+            xs[layout::RECORD_RESULT + 1],
+            xs[layout::RECORD_RESULT + 2],
+            xs[layout::RECORD_RESULT + 3],
+        )
+}
+
+fn signal_fits(xs: &[u64; layout::RECORD], i: usize) -> bool
+    requires { ⌜ i < store ⌝ }
     ensures { λ r. ⌜ r ≡ signal-fits (now (xs .entry)) i ⌝ }
 {
-    let k = 5 * i;
-    range_fits(xs, 23 + k, 27 + k)
+    let k = layout::RECORD_SIGNALS + layout::SIGNAL_WIDTH * i;
+    (xs[k + 1] < NUMBER) & (xs[k + 2] < NAME) & (xs[k + 3] < NAME) & (xs[k + 4] < NUMBER)
 }
 
-fn result_fits(xs: &[u64; 918], i: usize) -> bool
-    requires { ⌜ i < 64 ⌝ }
-    ensures { λ r. ⌜ r ≡ result-fits (now (xs .entry)) i ⌝ }
+// The numbers of one node: its visits, its streak and its result.
+fn node_fits(xs: &[u64; layout::RECORD], n: usize) -> bool
+    requires { ⌜ n < nodes ⌝ }
+    ensures { λ r. ⌜ r ≡ node-fits (now (xs .entry)) n ⌝ }
 {
-    let k = 6 * i;
-    output_fits(xs[536 + k], xs[537 + k], xs[538 + k], xs[539 + k])
+    let v = layout::RECORD_VISITS + n;
+    let s = layout::RECORD_STREAKS + layout::STREAK_WIDTH * n;
+    let k = layout::RECORD_RESULTS + layout::RESULT_WIDTH * n;
+    let plain = (xs[v] < NUMBER)
+        & (xs[s] < NAME)
+        & (xs[s + 1] < NUMBER)
+        & (xs[k] < NUMBER)
+        & (xs[k + 1] < NAME);
+    plain & output_fits(xs[k + 2], xs[k + 3], xs[k + 4], xs[k + 5])
 }
 
-fn signals_fit(xs: &[u64; 918]) -> bool
-    ensures { λ r. ⌜ r ≡ below 64 (signal-fits (now (xs .entry))) ⌝ }
+fn signals_fit(xs: &[u64; layout::RECORD]) -> bool
+    ensures { λ r. ⌜ r ≡ below store (signal-fits (now (xs .entry))) ⌝ }
 {
     let mut fit = true;
     let mut i: usize = 0;
-    while i < 64 {
+    while i < layout::STORE {
         fit = fit & signal_fits(xs, i);
         i += 1;
     }
     fit
 }
 
-fn results_fit(xs: &[u64; 918]) -> bool
-    ensures { λ r. ⌜ r ≡ below 64 (result-fits (now (xs .entry))) ⌝ }
+fn nodes_fit(xs: &[u64; layout::RECORD]) -> bool
+    ensures { λ r. ⌜ r ≡ below nodes (node-fits (now (xs .entry))) ⌝ }
 {
     let mut fit = true;
     let mut i: usize = 0;
-    while i < 64 {
-        fit = fit & result_fits(xs, i);
+    while i < layout::NODES {
+        fit = fit & node_fits(xs, i);
         i += 1;
     }
     fit
 }
 
 // Every number of a record is one that its field can hold.
-pub fn record_fits(xs: &[u64; 918]) -> bool
+pub fn record_fits(xs: &[u64; layout::RECORD]) -> bool
     ensures { λ r. ⌜ r ≡ record-fits (now (xs .entry)) ⌝ }
 {
-    range_fits(xs, 0, 3)
-        & range_fits(xs, 5, 22)
-        & range_fits(xs, 342, 918)
-        & kept_fits(xs[13], xs[14], xs[15], xs[16])
-        & output_fits(xs[17], xs[18], xs[19], xs[20])
-        & signals_fit(xs)
-        & results_fit(xs)
+    head_fits(xs) & signals_fit(xs) & nodes_fit(xs)
+}
+
+fn limits_fit(c: &[u64; layout::CALL]) -> bool
+    ensures { λ r. ⌜ r ≡ all-fit (now (c .entry)) limit-fields ⌝ }
+{
+    (c[layout::CALL_CEILING_NODES] < NUMBER)
+        & (c[layout::CALL_CEILING_VISITS] < NUMBER)
+        & (c[layout::CALL_CEILING_ACTIVATIONS] < NUMBER)
+        & (c[layout::CALL_CEILING_ATTEMPTS] < NUMBER)
+        & (c[layout::CALL_LIMIT_MICROSTEPS] < NUMBER)
+        & (c[layout::CALL_LIMIT_COMMANDS] < NUMBER)
+        & (c[layout::CALL_LIMIT_OPERATIONS] < NUMBER)
+        & (c[layout::CALL_HAS_RECORD] < MARK)
+}
+
+fn event_fits(c: &[u64; layout::CALL]) -> bool
+    ensures { λ r. ⌜ r ≡ all-fit (now (c .entry)) event-fields ⌝ }
+{
+    (c[layout::CALL_EVENT_ID] < NUMBER)
+        & (c[layout::CALL_KIND] < NUMBER)
+        & (c[layout::CALL_INPUT] < NUMBER)
+        & (c[layout::CALL_SIGNAL] < NAME)
+        & (c[layout::CALL_OUTCOME] < NAME)
+        & (c[layout::CALL_DATA] < NUMBER)
+        & (c[layout::CALL_NODE] < NAME)
+        & (c[layout::CALL_VISIT] < NUMBER)
+        & (c[layout::CALL_ATTEMPT] < NUMBER)
+        & (c[layout::CALL_STATUS] < NUMBER)
+        & (c[layout::CALL_OUTPUT] < NUMBER)
+        & (c[layout::CALL_HAS_ERROR] < MARK)
+        & (c[layout::CALL_ERROR_CODE] < CODE)
+        & (c[layout::CALL_ERROR_DETAIL] < NUMBER)
+        & (c[layout::CALL_RETRYABLE] < MARK)
+        & (c[layout::CALL_RESOLUTION] < NUMBER)
+        & (c[layout::CALL_ANSWERED] < NUMBER)
+}
+
+fn mapping_fits(c: &[u64; layout::CALL], i: usize) -> bool
+    requires { ⌜ i < mappings ⌝ }
+    ensures { λ r. ⌜ r ≡ all-fit (now (c .entry)) (mapping-fields i) ⌝ }
+{
+    let k = layout::CALL_MAPPINGS + layout::MAPPING_WIDTH * i;
+    (c[k] < NUMBER)
+        & (c[k + 1] < NUMBER)
+        & (c[k + 2] < CODE)
+        & (c[k + 3] < NUMBER)
+        & (c[k + 4] < NUMBER)
 }
 
 // Every number of a call is one that its field can hold.
-pub fn call_fits(c: &[u64; 38]) -> bool
+pub fn call_fits(c: &[u64; layout::CALL]) -> bool
     ensures { λ r. ⌜ r ≡ call-fits (now (c .entry)) ⌝ }
 {
-    range_fits(c, 0, 7)
-        & range_fits(c, 10, 21)
-        & range_fits(c, 22, 24)
-        & range_fits(c, 26, 38)
-        & (c[7] < 2)
-        & (c[21] < 2)
-        & (c[24] < 2)
+    limits_fit(c) & event_fits(c) & mapping_fits(c, 0) & mapping_fits(c, 1)
 }

@@ -1,18 +1,20 @@
 // A run record and an answer into a lent buffer (docs/NUMBERS.md).
+use crate::layout;
+use kernel::Decision;
 use model::BufferedSignal;
 use model::NodeResult;
 use model::State;
 use model::Streak;
 use model::Visits;
 use model::answer::Answer;
-use model::answer::Decision;
 use model::answer::Ending;
 use model::answer::Note;
 ghost use mathlib.Core.Path.{_≡_};
 ghost use mathlib.Core.List.{flatMap};
-ghost use Prim.Native.Nat.{_+_, _≤_};
+ghost use Prim.Native.Nat.{_+_, _*_, _≤_};
 ghost use lib.ListN.{length};
 ghost use Rattle.laws.specs.Splice.{splice};
+ghost use Rattle.host.specs.Layout.{store, nodes, notes, endings, signal-width, streak-width, result-width, note-width, ending-width, record-signals, record-length, answer-length};
 ghost use Rattle.host.specs.Write.{signal-numbers, visits-numbers, streak-numbers, result-numbers, note-numbers, ending-numbers, scalar-numbers, head-numbers, record-numbers, state-numbers, decision-numbers};
 
 fn write(out: &mut [u64], at: usize, xs: &[u64])
@@ -26,12 +28,12 @@ fn write(out: &mut [u64], at: usize, xs: &[u64])
     }
 }
 
-fn write_signals(out: &mut [u64], at: usize, xs: [BufferedSignal; 64])
-    requires { ⌜ at + 320 ≤ length (now out) ⌝ }
+fn write_signals(out: &mut [u64], at: usize, xs: [BufferedSignal; layout::STORE])
+    requires { ⌜ at + signal-width * store ≤ length (now out) ⌝ }
     ensures { λ _. ⌜ now (out .exit) ≡ splice (now (out .entry)) at (flatMap signal-numbers xs) ⌝ }
 {
     let mut i: usize = 0;
-    while i < 64 {
+    while i < layout::STORE {
         let x = xs[i];
         let row = [
             x.sequence,
@@ -40,17 +42,17 @@ fn write_signals(out: &mut [u64], at: usize, xs: [BufferedSignal; 64])
             x.outcome as u64,
             x.data as u64,
         ];
-        write(out, at + 5 * i, &row);
+        write(out, at + layout::SIGNAL_WIDTH * i, &row);
         i += 1;
     }
 }
 
-fn write_visits(out: &mut [u64], at: usize, xs: [Visits; 64])
-    requires { ⌜ at + 64 ≤ length (now out) ⌝ }
+fn write_visits(out: &mut [u64], at: usize, xs: [Visits; layout::NODES])
+    requires { ⌜ at + nodes ≤ length (now out) ⌝ }
     ensures { λ _. ⌜ now (out .exit) ≡ splice (now (out .entry)) at (flatMap visits-numbers xs) ⌝ }
 {
     let mut i: usize = 0;
-    while i < 64 {
+    while i < layout::NODES {
         let x = xs[i];
         let row = [x.count as u64];
         write(out, at + i, &row);
@@ -58,40 +60,40 @@ fn write_visits(out: &mut [u64], at: usize, xs: [Visits; 64])
     }
 }
 
-fn write_streaks(out: &mut [u64], at: usize, xs: [Streak; 64])
-    requires { ⌜ at + 128 ≤ length (now out) ⌝ }
+fn write_streaks(out: &mut [u64], at: usize, xs: [Streak; layout::NODES])
+    requires { ⌜ at + streak-width * nodes ≤ length (now out) ⌝ }
     ensures { λ _. ⌜ now (out .exit) ≡ splice (now (out .entry)) at (flatMap streak-numbers xs) ⌝ }
 {
     let mut i: usize = 0;
-    while i < 64 {
+    while i < layout::NODES {
         let x = xs[i];
         let row = [x.outcome as u64, x.count as u64];
-        write(out, at + 2 * i, &row);
+        write(out, at + layout::STREAK_WIDTH * i, &row);
         i += 1;
     }
 }
 
-fn write_results(out: &mut [u64], at: usize, xs: [NodeResult; 64])
-    requires { ⌜ at + 384 ≤ length (now out) ⌝ }
+fn write_results(out: &mut [u64], at: usize, xs: [NodeResult; layout::NODES])
+    requires { ⌜ at + result-width * nodes ≤ length (now out) ⌝ }
     ensures { λ _. ⌜ now (out .exit) ≡ splice (now (out .entry)) at (flatMap result-numbers xs) ⌝ }
 {
     let mut i: usize = 0;
-    while i < 64 {
+    while i < layout::NODES {
         let x = xs[i];
         let output = x.output;
         let o = output.numbers();
         let row = [x.visit as u64, x.outcome as u64, o[0], o[1], o[2], o[3]];
-        write(out, at + 6 * i, &row);
+        write(out, at + layout::RESULT_WIDTH * i, &row);
         i += 1;
     }
 }
 
-fn write_notes(out: &mut [u64], at: usize, xs: [Note; 65])
-    requires { ⌜ at + 325 ≤ length (now out) ⌝ }
+fn write_notes(out: &mut [u64], at: usize, xs: [Note; layout::NOTES])
+    requires { ⌜ at + note-width * notes ≤ length (now out) ⌝ }
     ensures { λ _. ⌜ now (out .exit) ≡ splice (now (out .entry)) at (flatMap note-numbers xs) ⌝ }
 {
     let mut i: usize = 0;
-    while i < 65 {
+    while i < layout::NOTES {
         let x = xs[i];
         let row = [
             x.code as u64,
@@ -100,25 +102,25 @@ fn write_notes(out: &mut [u64], at: usize, xs: [Note; 65])
             x.b as u64,
             x.c as u64,
         ];
-        write(out, at + 5 * i, &row);
+        write(out, at + layout::NOTE_WIDTH * i, &row);
         i += 1;
     }
 }
 
-fn write_endings(out: &mut [u64], at: usize, xs: [Ending; 65])
-    requires { ⌜ at + 130 ≤ length (now out) ⌝ }
+fn write_endings(out: &mut [u64], at: usize, xs: [Ending; layout::ENDINGS])
+    requires { ⌜ at + ending-width * endings ≤ length (now out) ⌝ }
     ensures { λ _. ⌜ now (out .exit) ≡ splice (now (out .entry)) at (flatMap ending-numbers xs) ⌝ }
 {
     let mut i: usize = 0;
-    while i < 65 {
+    while i < layout::ENDINGS {
         let x = xs[i];
         let row = [x.sequence, x.ending as u64];
-        write(out, at + 2 * i, &row);
+        write(out, at + layout::ENDING_WIDTH * i, &row);
         i += 1;
     }
 }
 
-fn scalars(s: State) -> [u64; 13]
+fn scalars(s: State) -> [u64; layout::RECORD_ERROR]
     ensures { λ r. ⌜ r ≡ scalar-numbers s ⌝ }
 {
     let position = s.position;
@@ -142,7 +144,7 @@ fn scalars(s: State) -> [u64; 13]
 
 // A record up to its rows.
 fn write_head(out: &mut [u64], at: usize, s: State)
-    requires { ⌜ at + 22 ≤ length (now out) ⌝ }
+    requires { ⌜ at + record-signals ≤ length (now out) ⌝ }
     ensures { λ _. ⌜ now (out .exit) ≡ splice (now (out .entry)) at (head-numbers s) ⌝ }
 {
     let invocation = s.invocation;
@@ -154,13 +156,13 @@ fn write_head(out: &mut [u64], at: usize, s: State)
     let ended = output.numbers();
     let count = [s.signal_count as u64];
     write(out, at, &first);
-    write(out, at + 13, &kept);
-    write(out, at + 17, &ended);
-    write(out, at + 21, &count);
+    write(out, at + layout::RECORD_ERROR, &kept);
+    write(out, at + layout::RECORD_RESULT, &ended);
+    write(out, at + layout::RECORD_STORED, &count);
 }
 
 fn write_record(out: &mut [u64], at: usize, s: State)
-    requires { ⌜ at + 918 ≤ length (now out) ⌝ }
+    requires { ⌜ at + record-length ≤ length (now out) ⌝ }
     ensures { λ _. ⌜ now (out .exit) ≡ splice (now (out .entry)) at (record-numbers s) ⌝ }
 {
     let signals = s.signals;
@@ -168,15 +170,15 @@ fn write_record(out: &mut [u64], at: usize, s: State)
     let streaks = s.streaks;
     let results = s.results;
     write_head(out, at, s);
-    write_signals(out, at + 22, signals);
-    write_visits(out, at + 342, visits);
-    write_streaks(out, at + 406, streaks);
-    write_results(out, at + 534, results);
+    write_signals(out, at + layout::RECORD_SIGNALS, signals);
+    write_visits(out, at + layout::RECORD_VISITS, visits);
+    write_streaks(out, at + layout::RECORD_STREAKS, streaks);
+    write_results(out, at + layout::RECORD_RESULTS, results);
 }
 
 // The record that goes with an answer; zeros with a refusal.
 fn write_state(out: &mut [u64], at: usize, answer: Answer, s: State)
-    requires { ⌜ at + 918 ≤ length (now out) ⌝ }
+    requires { ⌜ at + record-length ≤ length (now out) ⌝ }
     ensures { λ _. ⌜ now (out .exit) ≡ splice (now (out .entry)) at (state-numbers answer s) ⌝ }
 {
     match answer {
@@ -190,14 +192,14 @@ fn write_state(out: &mut [u64], at: usize, answer: Answer, s: State)
             from: _,
         } => write_record(out, at, s),
         Answer::Refused { number: _, item: _ } => {
-            let zeros = [0; 918];
+            let zeros = [0; layout::RECORD];
             write(out, at, &zeros)
         }
     }
 }
 
 pub fn write_decision(out: &mut [u64], d: Decision)
-    requires { ⌜ 1386 ≤ length (now out) ⌝ }
+    requires { ⌜ answer-length ≤ length (now out) ⌝ }
     ensures { λ _. ⌜ now (out .exit) ≡ splice (now (out .entry)) 0 (decision-numbers d) ⌝ }
 {
     let answer = d.answer;
@@ -206,9 +208,9 @@ pub fn write_decision(out: &mut [u64], d: Decision)
     let notes = d.notes;
     let endings = d.endings;
     let state = d.state;
-    write(out, 0, &numbers);
-    write(out, 11, &counts);
-    write_notes(out, 13, notes);
-    write_endings(out, 338, endings);
-    write_state(out, 468, answer, state);
+    write(out, layout::ANSWER_KIND, &numbers);
+    write(out, layout::ANSWER_NOTED, &counts);
+    write_notes(out, layout::ANSWER_NOTES, notes);
+    write_endings(out, layout::ANSWER_ENDINGS, endings);
+    write_state(out, layout::ANSWER_RECORD, answer, state);
 }

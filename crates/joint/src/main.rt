@@ -1,19 +1,21 @@
 // Walks Joint A from its start to an end, once until its loop is exhausted and once until the weld is accepted, and prints
 // for each call what the tablet shows next: where the run stands, its order, its notes and endings.
+use graph::Ceilings;
 use kernel::Call;
+use kernel::Decision;
+use kernel::Limits;
 use model::Position;
 use model::State;
 use model::answer::Answer;
-use model::answer::Decision;
 use model::answer::Ending;
 use model::answer::Note;
 use model::answer::Order;
+use model::code;
 use model::event::Event;
-use model::event::Limits;
 use model::event::Mapping;
 use model::event::Mappings;
-use workflow::Ceilings;
-use workflow::code;
+use workflow::code::NONE;
+use workflow::layout::NUMBERS;
 
 fn text(bytes: &[u8]) {
     io::write_all(1, bytes);
@@ -21,42 +23,6 @@ fn text(bytes: &[u8]) {
 
 fn number(n: u32) {
     io::print_decimal(1, n as u64);
-}
-
-// Format 2, visits 3, activations 10. Node 0: activity, action 0, ok to 1. Node 1: await signal 5, received to 2,
-// outcome 4 to 0, exhausted to 3, limit 1 on 4. Node 2 complete, 3 fail. Action 0: effect 1, ok, 2 attempts.
-fn sheet() -> [u32; workflow::NUMBERS] {
-    let mut w = [0u32; workflow::NUMBERS];
-    w[workflow::FORMAT] = workflow::code::FORMAT_0_2;
-    w[workflow::MAX_VISITS_PER_NODE] = 3;
-    w[workflow::MAX_ACTIVATIONS] = 10;
-    w[workflow::NODE_COUNT] = 4;
-    w[workflow::ROUTE_COUNT] = 4;
-    w[workflow::LIMIT_COUNT] = 1;
-    w[workflow::ACTION_COUNT] = 1;
-    w[workflow::DECLARED_COUNT] = 1;
-    w[workflow::NODE_KIND] = workflow::code::ACTIVITY;
-    w[workflow::NODE_KIND + 1] = workflow::code::AWAIT_SIGNAL;
-    w[workflow::NODE_KIND + 2] = workflow::code::COMPLETE;
-    w[workflow::NODE_KIND + 3] = workflow::code::FAIL;
-    w[workflow::NODE_SIGNAL + 1] = 5;
-    w[workflow::NODE_HAS_LIMITS + 1] = 1;
-    w[workflow::NODE_CODE + 3] = 77;
-    w[workflow::ROUTE_TARGET] = 1;
-    w[workflow::ROUTE_NODE + 1] = 1;
-    w[workflow::ROUTE_OUTCOME + 1] = workflow::code::RECEIVED;
-    w[workflow::ROUTE_TARGET + 1] = 2;
-    w[workflow::ROUTE_NODE + 2] = 1;
-    w[workflow::ROUTE_OUTCOME + 2] = workflow::code::EXHAUSTED;
-    w[workflow::ROUTE_TARGET + 2] = 3;
-    w[workflow::ROUTE_NODE + 3] = 1;
-    w[workflow::ROUTE_OUTCOME + 3] = 4;
-    w[workflow::LIMIT_NODE] = 1;
-    w[workflow::LIMIT_OUTCOME] = 4;
-    w[workflow::LIMIT_LIMIT] = 1;
-    w[workflow::ACTION_EFFECT] = 1;
-    w[workflow::ACTION_MAX_ATTEMPTS] = 2;
-    w
 }
 
 // The run so far: its record, if there is one.
@@ -84,7 +50,7 @@ fn event(kind: u32, sequence: u64) -> Event {
         kind,
         input: 0,
         signal: 0,
-        outcome: code::NONE,
+        outcome: NONE,
         data: 0,
         node: 0,
         visit: 0,
@@ -156,7 +122,7 @@ fn show_status(status: u32) {
 }
 
 fn show_position(position: Position) {
-    if position.node == code::NONE {
+    if position.node == NONE {
         return;
     }
     text(b" at node ");
@@ -281,7 +247,7 @@ fn show_next(decision: Decision, order: Order, microsteps: u32) {
 }
 
 // One call, shown. The record of an accepted call stands from then on; any other leaves the run as it was.
-fn go(w: &[u32; workflow::NUMBERS], run: Run, what: &[u8], event: Event) -> Run {
+fn go(w: &[u32; NUMBERS], run: Run, what: &[u8], event: Event) -> Run {
     text(what);
     let state = run.state;
     let decision = kernel::transition(w, run.has_record, state, call_with(event));
@@ -323,7 +289,7 @@ fn next_number(calls: u64) -> u64 {
     std::num::wrapping_add_u64(calls, 1)
 }
 
-fn start(w: &[u32; workflow::NUMBERS], run: Run) -> Run {
+fn start(w: &[u32; NUMBERS], run: Run) -> Run {
     go(
         w,
         run,
@@ -333,7 +299,7 @@ fn start(w: &[u32; workflow::NUMBERS], run: Run) -> Run {
 }
 
 // The panel's shot and its correction succeeded.
-fn success(w: &[u32; workflow::NUMBERS], run: Run, what: &[u8], visit: u32) -> Run {
+fn success(w: &[u32; NUMBERS], run: Run, what: &[u8], visit: u32) -> Run {
     let mut e = event(code::ACTIVITY_RESULT, next_number(run.calls));
     e.visit = visit;
     e.attempt = 1;
@@ -342,7 +308,7 @@ fn success(w: &[u32; workflow::NUMBERS], run: Run, what: &[u8], visit: u32) -> R
 }
 
 // The verdict came: signal 5 with an outcome.
-fn verdict(w: &[u32; workflow::NUMBERS], run: Run, what: &[u8], outcome: u32) -> Run {
+fn verdict(w: &[u32; NUMBERS], run: Run, what: &[u8], outcome: u32) -> Run {
     let mut e = event(code::SIGNAL_RECEIVED, next_number(run.calls));
     e.signal = 5;
     e.outcome = outcome;
@@ -350,7 +316,7 @@ fn verdict(w: &[u32; workflow::NUMBERS], run: Run, what: &[u8], outcome: u32) ->
 }
 
 fn main() {
-    let w = sheet();
+    let w = joint_a::sheet(1);
     text(b"JOINT A, SHOT AGAIN UNTIL ITS LOOP IS EXHAUSTED\n");
     let mut run = begin();
     run = start(&w, run);
@@ -359,10 +325,10 @@ fn main() {
     run = success(&w, run, b"the first success, a second time", 1);
     run = success(&w, run, b"success", 2);
     run = verdict(&w, run, b"verdict: shoot again", 4);
-    run = verdict(&w, run, b"verdict: accepted", code::NONE);
+    run = verdict(&w, run, b"verdict: accepted", NONE);
     text(b"JOINT A, ACCEPTED\n");
     run = begin();
     run = start(&w, run);
     run = success(&w, run, b"success", 1);
-    run = verdict(&w, run, b"verdict: accepted", code::NONE);
+    run = verdict(&w, run, b"verdict: accepted", NONE);
 }

@@ -4,22 +4,22 @@ use mathlib.Core.Bool.{Bool, true, false, not, false≢true}
 use mathlib.Core.List.{List, [], _∷_}
 use Prim.Native.Nat.{ℕ, _+_, _≤_}
 use lib.Dec.{eqb}
-use borrow.Author.Tests.{leb-true}
 use Rattle.laws.specs.Bool.{both}
 use Rattle.workflow.specs.View.{Workflow}
 use Rattle.graph.specs.declared.Verdict.{Verdict}
 use Rattle.graph.specs.declared.Verdict.the-variants.{Fine, Broken}
-use Rattle.graph.specs.Verdict.{rule, first-broken, verdict}
-use Rattle.graph.specs.Accepted.{all-fine, rule-fine}
+use Rattle.graph.specs.Chain.{stage, stage-fine, rule-holds}
 use Rattle.model.specs.declared.State.{State}
 use Rattle.model.specs.declared.event.Event.{Event}
-use Rattle.model.specs.declared.event.Limits.{Limits}
+use Rattle.kernel.specs.declared.Limits.{Limits}
 use Rattle.model.specs.Record.{fresh}
-use Rattle.model.specs.Check.{consistent}
-use Rattle.model.specs.EventCheck.{event-fits}
+use Rattle.model.specs.StoreLaws.{fits-few}
+use Rattle.snapshot.specs.Check.{consistent}
+use Rattle.snapshot.specs.EventCheck.{event-fits}
 use Rattle.kernel.specs.declared.Call.{Call}
+use Rattle.kernel.specs.Code.{inconsistent}
 use Rattle.kernel.specs.Drive.{driven}
-use Rattle.kernel.specs.Call.{last, given-record, is-start, start-stage, next-stage, record-stage, admission, given, refused, finish, course-by, conclude, transition}
+use Rattle.kernel.specs.Call.{last, given-record, is-start, start-stage, next-stage, record-stage, admission, given, refused, finish, transition-by, transition}
 use Rattle.kernel.specs.Decision.{decision-of}
 
 module _ (f : Workflow) (s : State) (c : Call) {b : Bool} {v : Verdict} where
@@ -34,9 +34,9 @@ pub room-of : (f : Workflow) (s : State) (c : Call) (b : Bool) → b ≡ true �
 unfolding admission next-stage consistent
 room-of f s c false z h = absurd (false≢true z)
 room-of f s c true z h =
-    let a = all-fine (verdict f (c .ceilings) ∷ rule 21 (event-fits (c .event) (c .mappings)) ∷ record-stage f c (last s) ∷ []) (sym h) in
-    let g = all-fine (rule 24 (not (is-start (c .event .kind))) ∷ rule 25 (consistent f s) ∷ rule 22 (eqb (c .event .sequence) (s .«last_sequence» + 1)) ∷ []) (a .1 .1 .0) in
-    leb-true _ _ (both _ _ (both _ _ (both _ _ (rule-fine 25 _ (g .1 .0)) .1) .0) .0)
+    let g : next-stage f s (c .event .kind) (c .event .sequence) ≡ Fine = stage-fine (sym h) (search stage depth 8) in
+    let e : consistent f s ≡ true = rule-holds inconsistent g (search stage depth 8) in
+    fits-few s (both _ _ (both _ _ e .1) .0)
 
 -- The record that the step starts at.
 module _ (s : State) (c : Call) (b : Bool) where
@@ -49,10 +49,10 @@ module _ (s : State) (c : Call) (b : Bool) where
 -- A call is turned away, or its step is done.
 module _ (f : Workflow) (s : State) (c : Call) (b : Bool) where
   pub is-away : (k i : ℕ) → Broken k i ≡ admission f (given-record b s) c → decision-of (refused k i) ≡ decision-of (transition f (given-record b s) c)
-  unfolding transition course-by conclude
+  unfolding transition transition-by
   is-away k i h = rw (sym h)
 
   pub is-stepped : (t : State) → t ≡ given (given-record b s) c → Fine ≡ admission f (given-record b s) c
       → decision-of (finish (c .limits) (driven f (c .limits .microsteps) (c .event) (c .mappings) t)) ≡ decision-of (transition f (given-record b s) c)
-  unfolding transition course-by conclude
+  unfolding transition transition-by
   is-stepped t e h = rw (e, sym h)

@@ -7,7 +7,6 @@ use native.Mathlib.Omega.{arith}
 use lib.Dec.{eqb, ltb}
 use lib.ListN.{length, length-take, length-append}
 use Rattle.laws.specs.Bool.{if_then_else_, split, either}
-use Rattle.laws.specs.First.{first}
 use Rattle.laws.specs.Settle.{settle}
 use Rattle.workflow.specs.View.{Workflow}
 use Rattle.workflow.specs.Lookup.{node-of}
@@ -23,10 +22,12 @@ use Rattle.model.specs.declared.moves.Next.{Next}
 use Rattle.model.specs.declared.moves.Next.the-variants.{Rest, Enter, Take, Consume, Wants, Refuse}
 use Rattle.model.specs.declared.moves.Move.{Move}
 use Rattle.model.specs.Record.{seen}
-use Rattle.model.specs.Store.{stored, first-signal, signal-at, removed}
-use Rattle.model.specs.Step.{no-note, no-ending, still, arrival, enter, take-signal, apply}
-use Rattle.model.specs.Cost.{cost, entered, costs-take, reacted, removed-count}
-use Rattle.kernel.specs.Drive.{Machine, add-note, add-ending, made, counting, consume-by, advance-by, advance, moves-on, is-moving, opened, applied, driven}
+use Rattle.model.specs.Store.{first-signal, signal-at, removed}
+use Rattle.model.specs.StoreLaws.{first-inside}
+use Rattle.model.specs.Step.{no-note, no-ending, still, arrival, enter, take}
+use Rattle.machine.specs.Events.{apply}
+use Rattle.kernel.specs.Cost.{cost, entered, costs-take, reacted, removed-count}
+use Rattle.kernel.specs.Drive.{Machine, added, moved, counting, consume-by, advance-by, advance, moves-on, is-moving, opened, started, driven}
 
 -- WHAT MAY STILL COME, by what comes next and how many signals are stored: moves, and notes or endings; and the signals that may be taken.
 abbrev pub need : Next → (stored : ℕ) → ℕ
@@ -97,33 +98,13 @@ module _ (n : Next) (count h : ℕ) (same : (n ≡ Rest → ⊥) → count ≡ h
   at-first (Refuse k) e l a q = (omega arith, omega arith)
 
 -- THE LISTS.
-more-notes : (xs : List Note) (x : Note) → length (add-note xs x) ≤ length xs + 1
-unfolding add-note if_then_else_
-more-notes xs x = split (eqb (x .code) 0) (λ h. rw h (omega arith)) (λ h. rw h (omega (arith, length-append xs (x ∷ []))))
+one-more : {A : Type 0} (c : ℕ) (xs : List A) (x : A) → length (added c xs x) ≤ length xs + 1
+unfolding added if_then_else_
+one-more c xs x = split (eqb c 0) (λ h. rw h (omega arith)) (λ h. rw h (omega (arith, length-append xs (x ∷ []))))
 
-more-endings : (xs : List Ending) (x : Ending) → length (add-ending xs x) ≤ length xs + 1
-unfolding add-ending if_then_else_
-more-endings xs x = split (eqb (x .ending) 0) (λ h. rw h (omega arith)) (λ h. rw h (omega (arith, length-append xs (x ∷ []))))
-
-pub same-notes : (xs : List Note) (x : Note) → x ≡ no-note → add-note xs x ≡ xs
-unfolding add-note if_then_else_
-same-notes xs x e = rw e
-
-pub same-endings : (xs : List Ending) (x : Ending) → x ≡ no-ending → add-ending xs x ≡ xs
-unfolding add-ending if_then_else_
-same-endings xs x e = rw e
-
--- A stored signal that is found has a place in the store.
-first-below : {A : Type 0} (p : A → Bool) (j : ℕ) (xs : List A) (i : ℕ) → first p (λ k _. At k) Nothing j xs ≡ At i → i < j + length xs
-unfolding first if_then_else_
-first-below p j [] i h = let z : _≡_ {A = ℕ} 0 1 = cc in absurd (omega arith)
-first-below p j (x ∷ xs) i h =
-    split (p x) (λ t. let y : At j ≡ At i = rw t at h in let z : j ≡ i = cc in omega arith)
-    (λ t. omega (arith, first-below p (j + 1) xs i (rw t at h)))
-
-pub first-inside : (s : State) (n i : ℕ) → first-signal s n ≡ At i → i < s .«signal_count»
-unfolding first-signal stored
-first-inside s n i h = omega (arith, first-below _ 0 _ i h, length-take (s .«signal_count») (s .signals))
+pub none-more : {A : Type 0} {c : ℕ} (xs : List A) (x : A) → c ≡ 0 → added c xs x ≡ xs
+unfolding added if_then_else_
+none-more xs x e = rw e
 
 -- A machine with n next, and k moves left.
 pub record Bounds (n : Next) (k : ℕ) (x : Machine) : Type 0 where
@@ -139,7 +120,7 @@ module _ (f : Workflow) (limit : ℕ) (e : Event) (m : Mappings) where
 
   -- a move is counted
   bounded-counting : (k : ℕ) (x : Machine) (v : Move) → x .microsteps + 1 ≤ 130 → length (x .notes) ≤ 65 → length (x .endings) ≤ 65
-      → Bounded k (made f limit e m (x .microsteps + 1) x v) → Bounded k (counting f limit e m x v)
+      → Bounded k (moved f limit e m (x .microsteps + 1) x v) → Bounded k (counting f limit e m x v)
   unfolding counting
   bounded-counting k x v h n d g =
       either (Bounded k) (ltb limit (x .microsteps + 1)) (λ _. record { room = omega arith; steps = omega arith; enough = omega arith; few-notes = omega arith; few-endings = omega arith }) (λ _. g)
@@ -152,7 +133,7 @@ module _ (f : Workflow) (limit : ℕ) (e : Event) (m : Mappings) where
       let q = spare-cost (v .next) (v .state .«signal_count») (omega arith) in
       let t = taken-stored (v .next) (v .state .«signal_count») in
       bounded-counting k x v (omega arith) (omega arith) (omega arith)
-      (record { room = omega arith; steps = omega arith; enough = omega arith; few-notes = omega (arith, more-notes (x .notes) (v .note)); few-endings = omega (arith, more-endings (x .endings) (v .ending)) })
+      (record { room = omega arith; steps = omega arith; enough = omega arith; few-notes = omega (arith, one-more (v .note .code) (x .notes) (v .note)); few-endings = omega (arith, one-more (v .ending .ending) (x .endings) (v .ending)) })
 
   -- WHAT COMES NEXT IS DONE.
   bounded-enter : (k : ℕ) (x : Machine) (n b : ℕ) → Bounds (Enter n b) (suc k) x → Bounded k (counting f limit e m x (enter f (x .state) n b m))
@@ -168,11 +149,11 @@ module _ (f : Workflow) (limit : ℕ) (e : Event) (m : Mappings) where
         room = omega (arith, a .room);
         steps = omega (arith, a .steps, c .costs .small);
         enough = omega (arith, a .enough, c .costs .small);
-        few-notes = omega (arith, a .few-notes, ap length (same-notes (x .notes) (v .note) (c .no-note)));
-        few-endings = omega (arith, a .few-endings, ap length (same-endings (x .endings) (v .ending) (c .no-end)));
+        few-notes = omega (arith, a .few-notes, ap length (none-more (x .notes) (v .note) (ap (λ (y : Note). y .code) (c .no-note))));
+        few-endings = omega (arith, a .few-endings, ap length (none-more (x .endings) (v .ending) (ap (λ (y : Ending). y .ending) (c .no-end))));
       })
 
-  bounded-arrival : (k : ℕ) (x : Machine) → Bounds Take (suc k) x → Bounded k (counting f limit e m x (take-signal f (x .state) (arrival e) Rest))
+  bounded-arrival : (k : ℕ) (x : Machine) → Bounds Take (suc k) x → Bounded k (counting f limit e m x (take f (x .state) (arrival e) Rest))
   bounded-arrival k x a =
       let c = costs-take f (x .state) (arrival e) Rest (omega arith) in
       bounded-take k (x .state .«signal_count») x _ (c .same) (c .small) (a .room) (omega (arith, a .steps)) (omega (arith, a .enough)) (omega (arith, a .few-notes)) (omega (arith, a .few-endings))
@@ -190,8 +171,8 @@ module _ (f : Workflow) (limit : ℕ) (e : Event) (m : Mappings) where
         room = omega arith;
         steps = omega (arith, a .steps);
         enough = omega arith;
-        few-notes = omega (arith, a .few-notes, ap length (same-notes (x .notes) no-note refl));
-        few-endings = omega (arith, a .few-endings, ap length (same-endings (x .endings) no-ending refl));
+        few-notes = omega (arith, a .few-notes, ap length (none-more (x .notes) no-note refl));
+        few-endings = omega (arith, a .few-endings, ap length (none-more (x .endings) no-ending refl));
       }
 
   -- a machine at rest needs no move
@@ -218,24 +199,12 @@ module _ (f : Workflow) (limit : ℕ) (e : Event) (m : Mappings) where
   stopped (Wants n i b) h z = refl
   stopped (Refuse k) h z = refl
 
-  bounded-settle : (k : ℕ) (x : Machine) → Bounded k x → Bounded 0 (settle (is-moving f limit e m) (advance f limit e m) k x)
-  unfolding settle
-  bounded-settle zero x a = a
-  bounded-settle (suc k) x a =
-      either (Bounded 0) (is-moving f limit e m x) (λ _. bounded-settle k _ (bounded-advance k x a))
-      (λ z. fewer (x .next) (suc k) 0 x (omega (arith, stopped (x .next) (x .state .«signal_count») z)) a)
-
   -- the event is applied
-  pub bounded-applied : (s : State) → s .«signal_count» ≤ 64 → Bounded 131 (applied f limit e m s)
-  bounded-applied s r =
+  pub bounded-started : (s : State) → s .«signal_count» ≤ 64 → Bounded 131 (started f limit e m s)
+  bounded-started s r =
       let v = apply f s e in
       let c = reacted f (seen s (e .sequence) (e .«accepted_at»)) e in
       let p = need-cost (v .next) (v .state .«signal_count») in
-      let n = at-first (v .next) (v .state .«signal_count») (s .«signal_count») (c .same) r (v .next) refl _ (more-notes [] (v .note)) (λ z. ap length (same-notes [] (v .note) (c .quiet z .0))) in
-      let d = at-first (v .next) (v .state .«signal_count») (s .«signal_count») (c .same) r (v .next) refl _ (more-endings [] (v .ending)) (λ z. ap length (same-endings [] (v .ending) (c .quiet z .1))) in
+      let n = at-first (v .next) (v .state .«signal_count») (s .«signal_count») (c .same) r (v .next) refl _ (one-more (v .note .code) [] (v .note)) (λ z. ap length (none-more [] (v .note) (ap (λ (y : Note). y .code) (c .quiet z .0)))) in
+      let d = at-first (v .next) (v .state .«signal_count») (s .«signal_count») (c .same) r (v .next) refl _ (one-more (v .ending .ending) [] (v .ending)) (λ z. ap length (none-more [] (v .ending) (ap (λ (y : Ending). y .ending) (c .quiet z .1)))) in
       record { room = n .1; steps = omega (arith, c .small); enough = omega (arith, c .small); few-notes = n .0; few-endings = d .0 }
-
-  -- A CALL ends with nothing next: the last move is never lacking.
-  pub bounded-driven : (s : State) → s .«signal_count» ≤ 64 → Bounded 0 (driven f limit e m s)
-  unfolding driven
-  bounded-driven s r = bounded-settle 131 (applied f limit e m s) (bounded-applied s r)

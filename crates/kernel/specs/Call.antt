@@ -2,39 +2,74 @@
 use mathlib.Core.Bool.{Bool, true, false, not}
 use mathlib.Core.List.{List, [], _∷_}
 use Prim.Native.Nat.{ℕ, _+_}
-use lib.Dec.{ltb, leb, eqb}
+use lib.Dec.{ltb, eqb}
 use Rattle.laws.specs.Bool.{if_then_else_}
 use Rattle.workflow.specs.View.{Workflow}
-use Rattle.workflow.specs.declared.Ceilings.{Ceilings}
 use Rattle.graph.specs.declared.Verdict.{Verdict}
 use Rattle.graph.specs.declared.Verdict.the-variants.{Fine, Broken}
 use Rattle.graph.specs.Verdict.{rule, first-broken, verdict}
 use Rattle.model.specs.declared.State.{State}
 use Rattle.model.specs.declared.event.Event.{Event}
-use Rattle.model.specs.declared.event.Mappings.{Mappings}
-use Rattle.model.specs.declared.event.Limits.{Limits}
 use Rattle.model.specs.declared.answer.Order.{Order}
 use Rattle.model.specs.declared.answer.Note.{Note}
 use Rattle.model.specs.declared.answer.Ending.{Ending}
 use Rattle.model.specs.declared.moves.Next.{Next}
 use Rattle.model.specs.declared.moves.Next.the-variants.{Rest, Enter, Take, Consume, Wants, Refuse}
-use Rattle.workflow.specs.Code.{none, largest, run-started, activity-result, invocation-resolved}
+use Rattle.workflow.specs.Code.{none}
+use Rattle.model.specs.Code.{run-started, invariant}
 use Rattle.model.specs.Record.{fresh}
-use Rattle.model.specs.Check.{consistent}
-use Rattle.model.specs.EventCheck.{event-fits}
+use Rattle.snapshot.specs.Check.{consistent}
+use Rattle.snapshot.specs.EventCheck.{event-fits}
+use Rattle.kernel.specs.declared.Limits.{Limits}
 use Rattle.kernel.specs.declared.Call.{Call}
+use Rattle.kernel.specs.Code.{event-unfit, out-of-sequence, not-started, started-before, inconsistent, commands-exceeded, operations-exceeded}
 use Rattle.kernel.specs.Drive.{Machine, driven}
 
--- The record that stands, if there is one.
+-- THE RECORD THAT STANDS, if there is one.
 pub data Last : Type 0 where
   no-record : Last
   last : State → Last
 
 abbrev pub given-record : (has-record : Bool) → State → Last
-given-record true s = last s
-given-record false s = no-record
+given-record true state = last state
+given-record false state = no-record
 
--- The answer is one of three: a next record with its order, notes and endings; a want of one mapping value, with the record at that moment; a refusal with its number and item.
+-- THE STAGES BEFORE THE STEP: sheet, event, record.
+-- Start without record: 22 if sequence isn't 1; other without record: 23; start with record: 24; else 25 run check, then 22 if not last + 1.
+abbrev pub is-start : (kind : ℕ) → Bool
+is-start kind = eqb kind run-started
+
+unfoldable pub start-stage : (kind sequence : ℕ) → Verdict
+start-stage kind sequence = first-broken (rule not-started (is-start kind) ∷ rule out-of-sequence (eqb sequence 1) ∷ [])
+
+unfoldable pub next-stage : Workflow → State → (kind sequence : ℕ) → Verdict
+next-stage sheet state kind sequence =
+    first-broken (
+    rule started-before (not (is-start kind))
+    ∷ rule inconsistent (consistent sheet state)
+    ∷ rule out-of-sequence (eqb sequence (state .«last_sequence» + 1))
+    ∷ []
+    )
+
+abbrev pub record-stage : Workflow → Call → Last → Verdict
+record-stage sheet call no-record = start-stage (call .event .kind) (call .event .sequence)
+record-stage sheet call (last state) = next-stage sheet state (call .event .kind) (call .event .sequence)
+
+unfoldable pub admission : Workflow → Last → Call → Verdict
+admission sheet standing call =
+    first-broken (
+    verdict sheet (call .ceilings)
+    ∷ rule event-unfit (event-fits (call .event) (call .mappings))
+    ∷ record-stage sheet call standing
+    ∷ []
+    )
+
+-- THE STEP starts at the record that stands, or at a fresh one.
+abbrev pub given : Last → Call → State
+given no-record call = fresh (call .event .input)
+given (last state) call = state
+
+-- THE ANSWER is one of three: a next record with its order, notes and endings; a want of one mapping value, with the record at that moment; a refusal with its number and item.
 pub record Accepted : Type 0 where
   pub state : State
   pub order : Order
@@ -44,75 +79,40 @@ pub record Accepted : Type 0 where
 
 pub data Answer : Type 0 where
   next : Accepted → Answer
-  wants : (node field come-from : ℕ) → State → Answer
+  wants : (node field from : ℕ) → State → Answer
   refused : (number item : ℕ) → Answer
 
--- 29 and 30: orders over the command limit, operations over theirs. A want and a refusal come before.
+-- THE FINISH: 29 orders over the command limit, then 30 operations over theirs. A want and a refusal come before.
 abbrev pub orders : Order → ℕ
 orders Order.Nothing = 0
-orders (Order.Schedule x) = 1
-orders (Order.Retry x) = 1
+orders (Order.Schedule schedule) = 1
+orders (Order.Retry retry) = 1
 
 abbrev pub accepted-of : Machine → Accepted
-accepted-of x = record { state = x .state; order = x .order; notes = x .notes; endings = x .endings; microsteps = x .microsteps }
+accepted-of machine = record { state = machine .state; order = machine .order; notes = machine .notes; endings = machine .endings; microsteps = machine .microsteps }
+
+-- A driver that runs out of moves: never (Bounds).
+abbrev pub unfinished : Answer
+unfinished = refused invariant none
 
 unfoldable pub finish-by : Next → Limits → Machine → Answer
-finish-by Rest l x =
-    if ltb (l .commands) (orders (x .order)) then refused 29 none else
-    if ltb (l .operations) (x .operations) then refused 30 none else
-    next (accepted-of x)
-finish-by (Wants n i b) l x = wants n i b (x .state)
-finish-by (Refuse k) l x = refused k none
-finish-by (Enter n b) l x = refused 0 none
-finish-by Take l x = refused 0 none
-finish-by Consume l x = refused 0 none
+finish-by Rest limits machine =
+    if ltb (limits .commands) (orders (machine .order)) then refused commands-exceeded none else
+    if ltb (limits .operations) (machine .operations) then refused operations-exceeded none else
+    next (accepted-of machine)
+finish-by (Wants node field from) limits machine = wants node field from (machine .state)
+finish-by (Refuse number) limits machine = refused number none
+finish-by (Enter node from) limits machine = unfinished
+finish-by Take limits machine = unfinished
+finish-by Consume limits machine = unfinished
 
 abbrev pub finish : Limits → Machine → Answer
-finish l x = finish-by (x .next) l x
+finish limits machine = finish-by (machine .next) limits machine
 
--- THE RECORD. Start without record: 22 if sequence isn't 1; other without record: 23; start with record: 24; else 25 run check, then 22 if not last + 1.
-abbrev pub is-start : (kind : ℕ) → Bool
-is-start k = eqb k run-started
-
-unfoldable pub start-stage : (kind sequence : ℕ) → Verdict
-start-stage k q = first-broken (rule 23 (is-start k) ∷ rule 22 (eqb q 1) ∷ [])
-
-unfoldable pub next-stage : Workflow → State → (kind sequence : ℕ) → Verdict
-next-stage f s k q = first-broken (rule 24 (not (is-start k)) ∷ rule 25 (consistent f s) ∷ rule 22 (eqb q (s .«last_sequence» + 1)) ∷ [])
-
-abbrev pub record-stage : Workflow → Call → Last → Verdict
-record-stage f c no-record = start-stage (c .event .kind) (c .event .sequence)
-record-stage f c (last s) = next-stage f s (c .event .kind) (c .event .sequence)
-
--- The stages before the step, in their order.
-unfoldable pub admission : Workflow → Last → Call → Verdict
-admission f r c = first-broken (verdict f (c .ceilings) ∷ rule 21 (event-fits (c .event) (c .mappings)) ∷ record-stage f c r ∷ [])
-
--- The record that a step starts at.
-abbrev pub given : Last → Call → State
-given no-record c = fresh (c .event .input)
-given (last s) c = s
-
--- A call is turned away before its step, or comes to it.
-pub data Course : Type 0 where
-  away : (number item : ℕ) → Course
-  stepped : Machine → Course
-
-unfoldable pub course-by : Verdict → Workflow → Last → Call → Course
-course-by (Broken k i) f r c = away k i
-course-by Fine f r c = stepped (driven f (c .limits .microsteps) (c .event) (c .mappings) (given r c))
-
-abbrev pub course : Workflow → Last → Call → Course
-course f r c = course-by (admission f r c) f r c
-
-unfoldable pub conclude : Limits → Course → Answer
-conclude l (away k i) = refused k i
-conclude l (stepped x) = finish l x
-
--- The microsteps that a call counts, whatever its answer.
-unfoldable pub counted : Course → ℕ
-counted (away k i) = 0
-counted (stepped x) = x .microsteps
+-- THE CALL: the first broken stage is the answer, else the step is done and finished.
+unfoldable pub transition-by : Verdict → Workflow → Last → Call → Answer
+transition-by (Broken number item) sheet standing call = refused number item
+transition-by Fine sheet standing call = finish (call .limits) (driven sheet (call .limits .microsteps) (call .event) (call .mappings) (given standing call))
 
 unfoldable pub transition : Workflow → Last → Call → Answer
-transition f r c = conclude (c .limits) (course f r c)
+transition sheet standing call = transition-by (admission sheet standing call) sheet standing call

@@ -22,7 +22,10 @@ use Rattle.model.specs.declared.moves.Next.{Next}
 use Rattle.model.specs.declared.moves.Next.the-variants.{Rest, Enter, Take, Consume, Wants, Refuse}
 use Rattle.model.specs.declared.moves.Move.{Move}
 use Rattle.model.specs.Store.{first-signal, signal-at, removed}
-use Rattle.model.specs.Step.{still, arrival, enter, take-signal, apply}
+use Rattle.model.specs.Step as step
+use Rattle.model.specs.Step.{still, arrival, enter}
+use Rattle.machine.specs.Events.{apply}
+use Rattle.kernel.specs.Code.{microsteps-exceeded}
 
 -- What a call works on: the record so far and what comes next, what it has put out, and what it has counted.
 pub record Machine : Type 0 where
@@ -37,77 +40,81 @@ pub record Machine : Type 0 where
 -- The operations of mapping answers.
 unfoldable pub operations-of : List Mapping → ℕ
 operations-of [] = 0
-operations-of (a ∷ more) = a .operations + operations-of more
+operations-of (answer ∷ more) = answer .operations + operations-of more
 
--- What a move says is listed behind what was said.
-unfoldable pub add-note : List Note → Note → List Note
-add-note xs x = if eqb (x .code) 0 then xs else (xs ++ (x ∷ []))
-
-unfoldable pub add-ending : List Ending → Ending → List Ending
-add-ending xs x = if eqb (x .ending) 0 then xs else (xs ++ (x ∷ []))
+-- What a move says is listed behind what was said; code 0 says nothing.
+unfoldable pub added : {A : Type 0} → (code : ℕ) → List A → A → List A
+added code listed said = if eqb code 0 then listed else (listed ++ (said ∷ []))
 
 -- For one sheet, one limit on microsteps, one event and its mapping answers.
-module _ (f : Workflow) (limit : ℕ) (e : Event) (m : Mappings) where
-  -- A move is made, at a count of microsteps.
-  abbrev pub made : (microsteps : ℕ) → Machine → Move → Machine
-  made k x v =
+module _ (sheet : Workflow) (limit : ℕ) (event : Event) (mappings : Mappings) where
+  -- A move is made, at a count of microsteps. Its order replaces the one before it, and none is lost: after an order nothing comes next.
+  abbrev pub moved : (microsteps : ℕ) → Machine → Move → Machine
+  moved count machine move =
       record {
-        state = v .state;
-        next = v .next;
-        order = v .order;
-        notes = add-note (x .notes) (v .note);
-        endings = add-ending (x .endings) (v .ending);
-        microsteps = k;
-        operations = x .operations + operations-of (take (v .answers) (m .answers));
+        state = move .state;
+        next = move .next;
+        order = move .order;
+        notes = added (move .note .code) (machine .notes) (move .note);
+        endings = added (move .ending .ending) (machine .endings) (move .ending);
+        microsteps = count;
+        operations = machine .operations + operations-of (take (move .read) (mappings .answers));
       }
 
-  abbrev pub refused : Machine → (number : ℕ) → Machine
-  refused x k =
-      record { state = x .state; next = Refuse k; order = x .order; notes = x .notes; endings = x .endings; microsteps = x .microsteps; operations = x .operations }
+  abbrev pub over-limit : Machine → Machine
+  over-limit machine =
+      record {
+        state = machine .state;
+        next = Refuse microsteps-exceeded;
+        order = machine .order;
+        notes = machine .notes;
+        endings = machine .endings;
+        microsteps = machine .microsteps;
+        operations = machine .operations;
+      }
 
   -- A move that is a microstep: it is counted, and the count is tested, before it is made.
   unfoldable pub counting : Machine → Move → Machine
-  counting x v = if ltb limit (x .microsteps + 1) then refused x 26 else made (x .microsteps + 1) x v
+  counting machine move = if ltb limit (machine .microsteps + 1) then over-limit machine else moved (machine .microsteps + 1) machine move
 
   -- The oldest stored signal that the node waits for is taken; with none left the run goes on waiting.
   unfoldable pub consume-by : Found → Machine → Machine
-  consume-by (At i) x = counting x (take-signal f (removed (x .state) i) (signal-at (x .state) i) Consume)
-  consume-by Nothing x = made (x .microsteps) x (still (x .state) Rest)
+  consume-by (At place) machine = counting machine (step.take sheet (removed (machine .state) place) (signal-at (machine .state) place) Consume)
+  consume-by Nothing machine = moved (machine .microsteps) machine (still (machine .state) Rest)
 
   abbrev pub consume : Machine → Machine
-  consume x = consume-by (first-signal (x .state) (node-of f (x .state .position .node) .signal)) x
+  consume machine = consume-by (first-signal (machine .state) (node-of sheet (machine .state .position .node) .signal)) machine
 
   -- What comes next is done.
   unfoldable pub advance-by : Next → Machine → Machine
-  advance-by Rest x = x
-  advance-by (Enter n b) x = counting x (enter f (x .state) n b m)
-  advance-by Take x = counting x (take-signal f (x .state) (arrival e) Rest)
-  advance-by Consume x = consume x
-  advance-by (Wants n i b) x = x
-  advance-by (Refuse k) x = x
+  advance-by Rest machine = machine
+  advance-by (Enter node from) machine = counting machine (enter sheet (machine .state) node from mappings)
+  advance-by Take machine = counting machine (step.take sheet (machine .state) (arrival event) Rest)
+  advance-by Consume machine = consume machine
+  advance-by (Wants node field from) machine = machine
+  advance-by (Refuse number) machine = machine
 
   abbrev pub advance : Machine → Machine
-  advance x = advance-by (x .next) x
+  advance machine = advance-by (machine .next) machine
 
   abbrev pub moves-on : Next → Bool
   moves-on Rest = false
-  moves-on (Enter n b) = true
+  moves-on (Enter node from) = true
   moves-on Take = true
   moves-on Consume = true
-  moves-on (Wants n i b) = false
-  moves-on (Refuse k) = false
+  moves-on (Wants node field from) = false
+  moves-on (Refuse number) = false
 
   abbrev pub is-moving : Machine → Bool
-  is-moving x = moves-on (x .next)
+  is-moving machine = moves-on (machine .next)
 
   -- The event is applied to the record.
   abbrev pub opened : State → Machine
-  opened s =
-      record { state = s; next = Rest; order = Order.Nothing; notes = []; endings = []; microsteps = 0; operations = 0 }
+  opened state = record { state = state; next = Rest; order = Order.Nothing; notes = []; endings = []; microsteps = 0; operations = 0 }
 
-  abbrev pub applied : State → Machine
-  applied s = made 0 (opened s) (apply f s e)
+  abbrev pub started : State → Machine
+  started state = moved 0 (opened state) (apply sheet state event)
 
-  -- Moves follow until nothing is next. 131 are enough: an arrival taken and its entry, two for each of 64 stored signals, and a last look at the store.
+  -- Moves follow until nothing is next. 131 are enough (Bounds): an arrival taken and its entry, two for each of 64 stored signals, and a last look at the store.
   unfoldable pub driven : State → Machine
-  driven s = settle is-moving advance 131 (applied s)
+  driven state = settle is-moving advance 131 (started state)

@@ -1,12 +1,10 @@
+-- definitions
+pub mod Code
 pub mod Drive
 pub mod Call
-pub mod Demand3
-pub mod Joint
-pub mod Bounds
-pub mod Held
 pub mod Decision
-pub mod DriveLaws
-pub mod Hold
-pub mod Whole
-pub mod Calls
+-- laws
+pub mod Cost
+pub mod Bounds
 pub mod Admission
+pub mod DriveLaws

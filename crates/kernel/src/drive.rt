@@ -1,43 +1,55 @@
 // The moves of a call, one after the other, and its answer.
-use model::BufferedSignal;
+use crate::Decision;
+use crate::Limits;
+use crate::code;
+use machine::events::arrival;
 use model::State;
 use model::answer::Answer;
-use model::answer::Decision;
 use model::answer::Ending;
 use model::answer::Note;
 use model::answer::Order;
 use model::event::Event;
-use model::event::Limits;
 use model::event::Mappings;
 use model::moves::Move;
 use model::moves::Next;
 use model::moves::no_ending;
 use model::moves::no_note;
-use model::moves::still;
 use workflow::Found;
-use workflow::NUMBERS;
-use workflow::code;
+use workflow::code::NONE;
+use workflow::layout::NUMBERS;
 ghost use mathlib.Core.Path.{_≡_};
 ghost use Prim.Native.Nat.{_≤_};
 ghost use lib.ListN.{take};
 ghost use Rattle.workflow.specs.View.{workflow};
-ghost use Rattle.model.specs.Step.{arrival};
 ghost use Rattle.kernel.specs.Drive.{operations-of, driven};
 ghost use Rattle.kernel.specs.Call.{wants, refused, orders, finish};
 ghost use Rattle.kernel.specs.Decision.{decision-of};
-ghost use Rattle.kernel.specs.DriveLaws.{decide, place-of, turn, rest-answer, answer-of, at-end, Begins};
+ghost use Rattle.kernel.specs.DriveLaws.{consumes, upcoming, advances, decide, rest-answer, answer-of, at-end, Begins};
 
-// The signal that arrived.
-fn arrival(event: Event) -> BufferedSignal
-    ensures { λ r. ⌜ r ≡ arrival event ⌝ }
-{
-    BufferedSignal {
-        sequence: event.sequence,
-        event_id: event.event_id,
-        signal: event.signal,
-        outcome: event.outcome,
-        data: event.data,
-    }
+// A move that is counted.
+enum Microstep {
+    // a node is entered, from the node come from
+    Enter { node: u32, from: u32 },
+    // the signal that arrived is taken
+    Take,
+    // the signal stored at a place is taken
+    Consume(u32),
+}
+
+// Why no move follows.
+enum Stop {
+    // the moves are over, with the order of the last one
+    Rest(Order),
+    // a mapping value is lacking
+    Wants { node: u32, field: u32, from: u32 },
+    // the call is refused
+    Refuse(u32),
+}
+
+// What follows a move.
+enum Following {
+    Step(Microstep),
+    Stop(Stop),
 }
 
 // The operations of the mapping answers that were read.
@@ -56,54 +68,51 @@ fn operations_of(mappings: Mappings, read: u32) -> u64
     (first.operations as u64) + (second.operations as u64)
 }
 
-// Where the signal stands that is taken next: its place in the store, or 0 where none is looked for. Nothing where no move follows.
-fn place_of(w: &[u32; NUMBERS], state: State, next: Next) -> Found
-    ensures { λ r. ⌜ r ≡ place-of (workflow (now (w .entry))) state next ⌝ }
+// The stored signal at the place that was found is taken; with none the run goes on waiting.
+fn consumes(found: Found) -> Following
+    ensures { λ r. ⌜ r ≡ consumes found ⌝ }
 {
-    match next {
-        Next::Rest => Found::Nothing,
-        Next::Enter { node: _, from: _ } => Found::At(0),
-        Next::Take => Found::At(0),
-        Next::Consume => {
-            let position = state.position;
-            let row = workflow::node_of(w, position.node);
-            state.first_signal(row.signal)
-        }
-        Next::Wants {
-            node: _,
-            field: _,
-            from: _,
-        } => Found::Nothing,
-        Next::Refuse(_) => Found::Nothing,
+    match found {
+        Found::At(place) => Following::Step(Microstep::Consume(place)),
+        Found::Nothing => Following::Stop(Stop::Rest(Order::Nothing)),
     }
 }
 
-// The move that comes next; place is that of the stored signal to take.
-fn turn(
+fn upcoming(w: &[u32; NUMBERS], state: State, next: Next, order: Order) -> Following
+    ensures { λ r. ⌜ r ≡ upcoming (workflow (now (w .entry))) state next order ⌝ }
+{
+    match next {
+        Next::Rest => Following::Stop(Stop::Rest(order)),
+        Next::Enter { node, from } => Following::Step(Microstep::Enter { node, from }),
+        Next::Take => Following::Step(Microstep::Take),
+        Next::Consume => {
+            let position = state.position;
+            let row = workflow::node_of(w, position.node);
+            consumes(state.first_signal(row.signal))
+        }
+        Next::Wants { node, field, from } => Following::Stop(Stop::Wants { node, field, from }),
+        Next::Refuse(number) => Following::Stop(Stop::Refuse(number)),
+    }
+}
+
+// The move of a microstep.
+fn advance(
     w: &[u32; NUMBERS],
     state: State,
-    next: Next,
-    place: u32,
+    step: Microstep,
     event: Event,
     mappings: Mappings,
 ) -> Move
-    ensures { λ r. ⌜ r ≡ turn (workflow (now (w .entry))) event mappings state place next ⌝ }
+    ensures { λ r. ⌜ r ≡ advances (workflow (now (w .entry))) event mappings state step ⌝ }
 {
-    match next {
-        Next::Rest => still(state, Next::Rest),
-        Next::Enter { node, from } => state.enter(w, node, from, mappings),
-        Next::Take => state.take(w, arrival(event), Next::Rest),
-        Next::Consume => {
+    match step {
+        Microstep::Enter { node, from } => state.enter(w, node, from, mappings),
+        Microstep::Take => state.take(w, arrival(event), Next::Rest),
+        Microstep::Consume(place) => {
             let signal = state.signal_at(place);
             let left = state.remove_signal(place);
             left.take(w, signal, Next::Consume)
         }
-        Next::Wants {
-            node: _,
-            field: _,
-            from: _,
-        } => still(state, Next::Rest),
-        Next::Refuse(_) => still(state, Next::Rest),
     }
 }
 
@@ -123,39 +132,27 @@ fn rest_answer(order: Order, limits: Limits, microsteps: u32, operations: u64) -
 {
     if limits.commands < order_count(order) {
         return Answer::Refused {
-            number: 29,
-            item: code::NONE,
+            number: code::COMMANDS_EXCEEDED,
+            item: NONE,
         };
     }
     if (limits.operations as u64) < operations {
         return Answer::Refused {
-            number: 30,
-            item: code::NONE,
+            number: code::OPERATIONS_EXCEEDED,
+            item: NONE,
         };
     }
     Answer::Next { order, microsteps }
 }
 
-// The answer where no move follows. Where the store has no signal that is waited for, the run goes on waiting.
-fn answer_of(next: Next, order: Order, limits: Limits, microsteps: u32, operations: u64) -> Answer
-    ensures { λ r. ⌜ r ≡ answer-of next order limits microsteps operations ⌝ }
+// The answer where nothing follows.
+fn answer_of(stop: Stop, limits: Limits, microsteps: u32, operations: u64) -> Answer
+    ensures { λ r. ⌜ r ≡ answer-of stop limits microsteps operations ⌝ }
 {
-    match next {
-        Next::Rest => rest_answer(order, limits, microsteps, operations),
-        Next::Enter { node: _, from: _ } => Answer::Refused {
-            number: code::ASTRAY,
-            item: code::NONE,
-        },
-        Next::Take => Answer::Refused {
-            number: code::ASTRAY,
-            item: code::NONE,
-        },
-        Next::Consume => rest_answer(Order::Nothing, limits, microsteps, operations),
-        Next::Wants { node, field, from } => Answer::Wants { node, field, from },
-        Next::Refuse(number) => Answer::Refused {
-            number,
-            item: code::NONE,
-        },
+    match stop {
+        Stop::Rest(order) => rest_answer(order, limits, microsteps, operations),
+        Stop::Wants { node, field, from } => Answer::Wants { node, field, from },
+        Stop::Refuse(number) => Answer::Refused { number, item: NONE },
     }
 }
 
@@ -164,8 +161,8 @@ pub fn refusal(number: u32, item: u32) -> Decision
     ensures { λ r. ⌜ r ≡ decision-of (refused number item) ⌝ }
 {
     Decision {
-        notes: [no_note(); 65],
-        endings: [no_ending(); 65],
+        notes: [no_note(); code::LIST],
+        endings: [no_ending(); code::LIST],
         note_count: 0,
         ending_count: 0,
         answer: Answer::Refused { number, item },
@@ -178,8 +175,8 @@ fn want(node: u32, field: u32, from: u32, state: State) -> Decision
     ensures { λ r. ⌜ r ≡ decision-of (wants node field from state) ⌝ }
 {
     Decision {
-        notes: [no_note(); 65],
-        endings: [no_ending(); 65],
+        notes: [no_note(); code::LIST],
+        endings: [no_ending(); code::LIST],
         note_count: 0,
         ending_count: 0,
         answer: Answer::Wants { node, field, from },
@@ -187,10 +184,10 @@ fn want(node: u32, field: u32, from: u32, state: State) -> Decision
     }
 }
 
-// The answer where no move follows: a want has no notes and no endings, a refusal no record besides.
+// What an answer hands back: a want has no notes and no endings, a refusal no record besides.
 fn decide(
-    notes: [Note; 65],
-    endings: [Ending; 65],
+    notes: [Note; code::LIST],
+    endings: [Ending; code::LIST],
     note_count: u32,
     ending_count: u32,
     answer: Answer,
@@ -223,8 +220,8 @@ fn run(
     requires { ⌜ Begins (workflow (now w)) limits event mappings v ⌝ }
     ensures { λ r. ⌜ r ≡ decision-of (finish limits (at-end (workflow (now (w .entry))) limits event mappings v)) ⌝ }
 {
-    let mut notes: [Note; 65] = [no_note(); 65];
-    let mut endings: [Ending; 65] = [no_ending(); 65];
+    let mut notes: [Note; code::LIST] = [no_note(); code::LIST];
+    let mut endings: [Ending; code::LIST] = [no_ending(); code::LIST];
     let mut note_count: u32 = 0;
     let mut ending_count: u32 = 0;
     let mut operations: u64 = 0;
@@ -240,19 +237,23 @@ fn run(
             endings[ending_count as usize] = ending;
             ending_count += 1;
         }
-        operations += operations_of(mappings, v.answers);
+        operations += operations_of(mappings, v.read);
         let next = v.next;
-        let found = place_of(w, v.state, next);
-        let Found::At(place) = found else {
-            let order = v.order;
-            let answer = answer_of(next, order, limits, microsteps, operations);
-            return decide(notes, endings, note_count, ending_count, answer, v.state);
-        };
-        if limits.microsteps <= microsteps {
-            return refusal(26, code::NONE);
+        let order = v.order;
+        let follows = upcoming(w, v.state, next, order);
+        match follows {
+            Following::Stop(stop) => {
+                let answer = answer_of(stop, limits, microsteps, operations);
+                return decide(notes, endings, note_count, ending_count, answer, v.state);
+            }
+            Following::Step(step) => {
+                if limits.microsteps <= microsteps {
+                    return refusal(code::MICROSTEPS_EXCEEDED, NONE);
+                }
+                v = advance(w, v.state, step, event, mappings);
+                microsteps += 1;
+            }
         }
-        v = turn(w, v.state, next, place, event, mappings);
-        microsteps += 1;
     }
 }
 
@@ -267,6 +268,6 @@ pub fn drive(
     requires { ⌜ s .«signal_count» ≤ 64 ⌝ }
     ensures { λ r. ⌜ r ≡ decision-of (finish limits (driven (workflow (now (w .entry))) (limits .microsteps) event mappings s)) ⌝ }
 {
-    let v = s.apply(w, event);
+    let v = machine::apply(w, s, event);
     run(w, v, limits, event, mappings)
 }

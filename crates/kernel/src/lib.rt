@@ -1,16 +1,19 @@
 // A call. The definition is in specs/.
+pub mod code;
 mod drive;
 
+use graph::Ceilings;
 use graph::Verdict;
-use graph::held;
+use graph::is_broken;
+use graph::rule;
 use model::State;
-use model::answer::Decision;
+use model::answer::Answer;
+use model::answer::Ending;
+use model::answer::Note;
+use model::code as record;
 use model::event::Event;
-use model::event::Limits;
 use model::event::Mappings;
-use workflow::Ceilings;
-use workflow::NUMBERS;
-use workflow::code;
+use workflow::layout::NUMBERS;
 ghost use mathlib.Core.Path.{_≡_};
 ghost use Prim.Native.Nat.{_+_};
 ghost use lib.Dec.{eqb};
@@ -18,12 +21,29 @@ ghost use Rattle.workflow.specs.View.{workflow};
 ghost use Rattle.kernel.specs.Call.{given-record, start-stage, next-stage, admission, transition};
 ghost use Rattle.kernel.specs.Decision.{decision-of};
 
+// The most that a call may count.
+pub struct Limits {
+    pub microsteps: u32,
+    pub commands: u32,
+    pub operations: u32,
+}
+
 // What a call carries beside the sheet and the record.
 pub struct Call {
     pub ceilings: Ceilings,
     pub limits: Limits,
     pub event: Event,
     pub mappings: Mappings,
+}
+
+// An answer with its lists and its record. A want has neither list; a refusal has the fresh record, which tells nothing.
+pub struct Decision {
+    pub notes: [Note; code::LIST],
+    pub endings: [Ending; code::LIST],
+    pub note_count: u32,
+    pub ending_count: u32,
+    pub answer: Answer,
+    pub state: State,
 }
 
 // The sequence number is the next one.
@@ -40,26 +60,26 @@ fn is_next(sequence: u64, last: u64) -> bool
 fn start_stage(kind: u32, sequence: u64) -> Verdict
     ensures { λ r. ⌜ r ≡ start-stage kind sequence ⌝ }
 {
-    let start = held(23, kind == code::RUN_STARTED);
-    if let Verdict::Broken { rule, item } = start {
-        return Verdict::Broken { rule, item };
+    let start = rule(code::NOT_STARTED, kind == record::RUN_STARTED);
+    if is_broken(start) {
+        return start;
     }
-    held(22, sequence == 1)
+    rule(code::OUT_OF_SEQUENCE, sequence == 1)
 }
 
 // With a record: 24, 25, 22.
 fn next_stage(w: &[u32; NUMBERS], s: State, kind: u32, sequence: u64) -> Verdict
     ensures { λ r. ⌜ r ≡ next-stage (workflow (now (w .entry))) s kind sequence ⌝ }
 {
-    let other = held(24, kind != code::RUN_STARTED);
-    if let Verdict::Broken { rule, item } = other {
-        return Verdict::Broken { rule, item };
+    let other = rule(code::STARTED_BEFORE, kind != record::RUN_STARTED);
+    if is_broken(other) {
+        return other;
     }
-    let check = held(25, s.consistent(w));
-    if let Verdict::Broken { rule, item } = check {
-        return Verdict::Broken { rule, item };
+    let check = rule(code::INCONSISTENT, snapshot::consistent(w, s));
+    if is_broken(check) {
+        return check;
     }
-    held(22, is_next(sequence, s.last_sequence))
+    rule(code::OUT_OF_SEQUENCE, is_next(sequence, s.last_sequence))
 }
 
 // The stages of a call before its step: sheet, event, record. Where there is no record, s is not looked at.
@@ -67,12 +87,12 @@ pub fn admit(w: &[u32; NUMBERS], has_record: bool, s: State, c: Call) -> Verdict
     ensures { λ r. ⌜ r ≡ admission (workflow (now (w .entry))) (given-record «has_record» s) c ⌝ }
 {
     let sheet = graph::validate(w, c.ceilings);
-    if let Verdict::Broken { rule, item } = sheet {
-        return Verdict::Broken { rule, item };
+    if is_broken(sheet) {
+        return sheet;
     }
-    let event = held(21, model::snapshot::event_fits(c.event, c.mappings));
-    if let Verdict::Broken { rule, item } = event {
-        return Verdict::Broken { rule, item };
+    let event = rule(code::EVENT_UNFIT, snapshot::event_fits(c.event, c.mappings));
+    if is_broken(event) {
+        return event;
     }
     if has_record {
         return next_stage(w, s, c.event.kind, c.event.sequence);
@@ -86,8 +106,8 @@ pub fn transition(w: &[u32; NUMBERS], has_record: bool, s: State, c: Call) -> De
     ensures { λ r. ⌜ r ≡ decision-of (transition (workflow (now (w .entry))) (given-record «has_record» s) c) ⌝ }
 {
     let verdict = admit(w, has_record, s, c);
-    if let Verdict::Broken { rule, item } = verdict {
-        return drive::refusal(rule, item);
+    if let Verdict::Broken { rule: number, item } = verdict {
+        return drive::refusal(number, item);
     }
     let limits = c.limits;
     let event = c.event;

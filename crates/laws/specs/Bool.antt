@@ -91,3 +91,9 @@ pub either : {A : Type 0} (P : A → Type 0) (b : Bool) {x y : A} → (b ≡ tru
 unfolding if_then_else_
 either P true f g = f refl
 either P false f g = g refl
+
+-- Not both, and the first: not the second.
+pub implied : (a b : Bool) → a and b ≡ false → a ≡ true → b ≡ false
+unfolding _and_
+implied true b e h = e
+implied false b e h = absurd (false≢true h)

@@ -3,8 +3,9 @@ use mathlib.Core.Path.{_≡_, refl}
 use mathlib.Core.Bool.{Bool, true, false, not}
 use mathlib.Core.List.{List, [], _∷_, _++_}
 use Prim.Native.Nat.{ℕ, zero, suc, _+_}
+use native.Mathlib.Omega.{arith}
 use Rattle.laws.specs.Bool.{if_then_else_, _and_, split, both, join}
-use Rattle.laws.specs.Rows.{span}
+use Rattle.laws.specs.Rows.{span, span-more, span-none}
 use Rattle.laws.specs.First.{first}
 use Rattle.laws.specs.Shift.{remove-at}
 
@@ -34,3 +35,12 @@ module _ {A : Type 0} (p : A → Bool) where
   every-remove i [] e = e
   every-remove zero (x ∷ xs) e = both _ _ e .1
   every-remove (suc i) (x ∷ xs) e = let b = both _ _ e in join _ _ (b .0) (every-remove i xs (b .1))
+
+-- The rows that f reads pass where their places do.
+pub every-rows : {A : Type 0} (p : A → Bool) (f : ℕ → A) (k : ℕ) → every p (span f 0 k) ≡ every (λ j. p (f j)) (span (λ j. j) 0 k)
+unfolding every
+every-rows p f k = from k 0 (omega arith)
+  where
+    from : (m i : ℕ) → k ≡ i + m → every p (span f i k) ≡ every (λ j. p (f j)) (span (λ j. j) i k)
+    from zero i e = rw (span-none f i k (omega arith), span-none (λ j. j) i k (omega arith))
+    from (suc m) i e = rw (span-more f i k (omega arith), span-more (λ j. j) i k (omega arith), from m (i + 1) (omega arith))

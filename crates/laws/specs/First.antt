@@ -2,7 +2,7 @@
 use mathlib.Core.Path.{_≡_, refl, sym, _∙_, ap}
 use mathlib.Core.Bool.{Bool, true, false}
 use mathlib.Core.List.{List, [], _∷_}
-use Prim.Native.Nat.{ℕ, _+_, _≤_, _<_}
+use Prim.Native.Nat.{ℕ, zero, suc, _+_, _≤_, _<_}
 use native.Mathlib.Omega.{arith}
 use Rattle.laws.specs.Bool.{if_then_else_}
 use Rattle.laws.specs.Rows.{span, span-more, span-none}
@@ -41,3 +41,14 @@ module _ {A B : Type 0} {p : A → Bool} {v : ℕ → A → B} {e : B} {f : ℕ 
   seek-miss h s q r =
       let t : p (f i) ≡ false = cc in
       record { left = sym (rw (span-more f i k h, t)) ∙ inv .left }
+
+-- Two readers whose elements pass alike and give the same find the same.
+module _ {A C B : Type 0} (p : A → Bool) (v : ℕ → A → B) (f : ℕ → A) (q : C → Bool) (u : ℕ → C → B) (g : ℕ → C) (e : B) (k : ℕ)
+    (alike : (j : ℕ) → j < k → p (f j) ≡ q (g j)) (same : (i j : ℕ) → j < k → v i (f j) ≡ u i (g j)) where
+  same-from : (m i : ℕ) → k ≡ i + m → first p v e i (span f i k) ≡ first q u e i (span g i k)
+  unfolding first
+  same-from zero i h = rw (span-none f i k (omega arith), span-none g i k (omega arith))
+  same-from (suc m) i h = rw (span-more f i k (omega arith), span-more g i k (omega arith), alike i (omega arith), same i i (omega arith), same-from m (i + 1) (omega arith))
+
+  pub first-same : first p v e 0 (span f 0 k) ≡ first q u e 0 (span g 0 k)
+  first-same = same-from k 0 (omega arith)

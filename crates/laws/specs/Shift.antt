@@ -4,7 +4,7 @@ use mathlib.Core.List.{List, [], _∷_, _++_}
 use Prim.Native.Nat.{ℕ, zero, suc, _≤_, _<_, _+_}
 use native.Mathlib.Omega.{arith}
 use native.Mathlib.Numerals.{add-one}
-use lib.ListN.{length, getD, set, take, drop, length-set}
+use lib.ListN.{length, getD, set, take, drop, length-set, length-append}
 use lib.Seq.{take-append-le, drop-append-le}
 
 -- xs with the element at i left out
@@ -73,3 +73,10 @@ module _ {A : Type 0} (z : A) where
   drop-without (x ∷ xs) zero k h g = drop-append-le k xs (z ∷ []) (omega arith)
   drop-without (x ∷ xs) (suc i) zero h g = absurd (omega arith)
   drop-without (x ∷ xs) (suc i) (suc k) h g = drop-without xs i k (omega arith) (omega arith)
+
+-- Where one goes and one comes, the list is as long as before.
+pub length-without : {A : Type 0} (z : A) (xs : List A) (i : ℕ) → i < length xs → length (without z xs i) ≡ length xs
+unfolding without remove-at
+length-without z [] i h = absurd (omega arith)
+length-without z (x ∷ xs) zero h = simp length-append (omega arith)
+length-without z (x ∷ xs) (suc i) h = ap suc (length-without z xs i (omega arith))

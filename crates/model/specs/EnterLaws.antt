@@ -3,21 +3,21 @@ use mathlib.Core.Path.{_≡_, sym, _∙_}
 use Prim.Native.Nat.{ℕ, _+_, _≤_, _<_}
 use borrow.Author.Tests.{le-leb, lt-leb, ne-eqb}
 use Rattle.laws.specs.Bool.{if_then_else_}
-use Rattle.workflow.specs.Code.{activity, await-signal, complete, waiting, run-completed, field-params, field-output, visits-exceeded, activations-exceeded}
+use Rattle.workflow.specs.Code.{activity, await-signal, complete}
+use Rattle.model.specs.Code.{field-params, visits-exceeded, activations-exceeded}
 use Rattle.workflow.specs.View.{Workflow}
 use Rattle.workflow.specs.Lookup.{node-slots, node-of}
 use Rattle.workflow.specs.declared.Node.{Node}
 use Rattle.workflow.specs.declared.Found.{Found}
 use Rattle.workflow.specs.declared.Found.the-variants.{At, Nothing}
 use Rattle.model.specs.declared.State.{State}
-use Rattle.model.specs.declared.Output.{Output}
 use Rattle.model.specs.declared.answer.Params.{Params}
 use Rattle.model.specs.declared.event.Mappings.{Mappings}
 use Rattle.model.specs.declared.event.Evaluated.{Evaluated}
-use Rattle.model.specs.declared.moves.Next.the-variants.{Rest, Consume}
+use Rattle.model.specs.declared.moves.Next.the-variants.{Rest}
 use Rattle.model.specs.declared.moves.Move.{Move}
-use Rattle.model.specs.Record.{no-invocation, visits-of, with-visits, placed, finished}
-use Rattle.model.specs.Step.{still, reading, error, position, answer, evaluate, terminate, schedule, enter-activity, arrive, enter}
+use Rattle.model.specs.Record.{visits-of, with-visits}
+use Rattle.model.specs.Step.{still, reading, error, answer, evaluate, terminate, schedule, enter-activity, enter-await, enter-complete, arrive, enter}
 
 -- The value of a mapping answer, if it is one.
 unfoldable pub value-of : Evaluated → Found
@@ -28,16 +28,12 @@ value-of Evaluated.Lacking = Nothing
 
 module _ (f : Workflow) where
   -- What follows an answer that is no value.
-  unfoldable pub halted : Evaluated → State → (node field come-from read : ℕ) → Move
-  halted a s n i b r = evaluate f a s n i b r (λ _. still s Rest)
+  unfoldable pub without-value : Evaluated → State → (node field from read : ℕ) → Move
+  without-value a s n i b r = evaluate f a s n i b r (λ _. still s Rest)
 
   -- The params of an activity whose input is known.
-  unfoldable pub enter-with-params : State → (node come-from : ℕ) → Mappings → (input : ℕ) → Move
+  unfoldable pub enter-with-params : State → (node from : ℕ) → Mappings → (input : ℕ) → Move
   enter-with-params s n b m x = evaluate f (answer m 1) s n field-params b 2 (λ p. reading 2 (schedule f s n x (Params.Handle p)))
-
-  -- A complete node needs its output.
-  unfoldable pub enter-complete : State → (node come-from : ℕ) → Mappings → Move
-  enter-complete s n b m = evaluate f (answer m 0) s n field-output b 1 (λ x. reading 1 (still (finished s run-completed (record { output = Output.Handle x })) Rest))
 
   -- A value is gone on with, and any other answer halts: a is the answer, v its value if any, and r the move.
   pub evaluates : (e : Evaluated) (s : State) (n i b j : ℕ) (k : ℕ → Move) {a : Evaluated} {v : Found} {x : ℕ} {r : Move} → a ≡ e → v ≡ value-of a → v ≡ At x → r ≡ k x → r ≡ evaluate f e s n i b j k
@@ -49,8 +45,8 @@ module _ (f : Workflow) where
   evaluates Evaluated.Unencodable s n i b j k p q h g = cc
   evaluates Evaluated.Lacking s n i b j k p q h g = cc
 
-  pub halts : (e : Evaluated) (s : State) (n i b j : ℕ) (k : ℕ → Move) {a : Evaluated} {v : Found} {r : Move} → a ≡ e → v ≡ value-of a → v ≡ Nothing → r ≡ halted a s n i b j → r ≡ evaluate f e s n i b j k
-  unfolding value-of evaluate halted
+  pub halts : (e : Evaluated) (s : State) (n i b j : ℕ) (k : ℕ → Move) {a : Evaluated} {v : Found} {r : Move} → a ≡ e → v ≡ value-of a → v ≡ Nothing → r ≡ without-value a s n i b j → r ≡ evaluate f e s n i b j k
+  unfolding value-of evaluate without-value
   halts (Evaluated.Value y) s n i b j k p q h g = cc
   halts (Evaluated.Fault c d) s n i b j k p q h g = rw p at g
   halts Evaluated.Unencodable s n i b j k p q h g = rw p at g
@@ -77,12 +73,12 @@ module _ (f : Workflow) where
         unfolding arrive if_then_else_
         enters-activity h g = g ∙ sym (arrives ∙ simp (← is-row, h))
 
-        pub enters-await : {r : Move} → row .kind ≡ await-signal → r ≡ still (placed (with-visits s n v a) waiting (position n (visits-of (with-visits s n v a) n .count)) no-invocation) Consume → r ≡ enter f s n b m
+        pub enters-await : {r : Move} → row .kind ≡ await-signal → r ≡ enter-await f (with-visits s n v a) n → r ≡ enter f s n b m
         unfolding arrive if_then_else_
         enters-await h g = g ∙ sym (arrives ∙ simp (← is-row, h))
 
-        pub enters-complete : {r : Move} → row .kind ≡ complete → r ≡ enter-complete (with-visits s n v a) n b m → r ≡ enter f s n b m
-        unfolding arrive enter-complete if_then_else_
+        pub enters-complete : {r : Move} → row .kind ≡ complete → r ≡ enter-complete f (with-visits s n v a) n b m → r ≡ enter f s n b m
+        unfolding arrive if_then_else_
         enters-complete h g = g ∙ sym (arrives ∙ simp (← is-row, h))
 
         pub enters-fail : {r : Move} → (row .kind ≡ activity → ⊥) → (row .kind ≡ await-signal → ⊥) → (row .kind ≡ complete → ⊥) → r ≡ terminate f (with-visits s n v a) (error (row .code) n (row .detail)) → r ≡ enter f s n b m

@@ -1,13 +1,10 @@
+-- definitions
+pub mod Code
 pub mod Record
 pub mod Store
 pub mod Answers
 pub mod Step
-pub mod Check
-pub mod Counts
-pub mod Tidy
-pub mod Cost
-pub mod Keep
-pub mod EventCheck
-pub mod SnapshotLaws
+-- laws
+pub mod StoreLaws
 pub mod EnterLaws
-pub mod MachineLaws
+pub mod RouteLaws

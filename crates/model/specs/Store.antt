@@ -1,12 +1,14 @@
--- The stored signals: the first `signal_count` of the array, oldest first.
+-- The stored signals: the first `signal_count` of the array, oldest first. Only this file and its laws (StoreLaws) know where they sit.
 use mathlib.Core.List.{List}
+use mathlib.Core.Bool.{Bool}
 use Prim.Native.Nat.{ℕ, _+_, _-_, min}
-use lib.ListN.{getD, set, take}
-use lib.Dec.{ltb, eqb}
-use Rattle.laws.specs.Bool.{if_then_else_}
+use lib.ListN.{getD, set, take, drop}
+use lib.Dec.{ltb, leb, eqb}
+use Rattle.laws.specs.Bool.{if_then_else_, _and_}
 use Rattle.laws.specs.First.{first}
+use Rattle.laws.specs.Every.{every}
 use Rattle.laws.specs.Shift.{without}
-use Rattle.workflow.specs.Code.{store}
+use Rattle.model.specs.Code.{store, largest}
 use Rattle.workflow.specs.declared.Found.{Found}
 use Rattle.workflow.specs.declared.Found.the-variants.{At, Nothing}
 use Rattle.model.specs.Record.{no-signal, set-signals}
@@ -14,20 +16,43 @@ use Rattle.model.specs.declared.BufferedSignal.{BufferedSignal}
 use Rattle.model.specs.declared.State.{State}
 
 -- The store as a list.
-unfoldable pub stored : State → List BufferedSignal
-stored s = take (s .«signal_count») (s .signals)
+unfoldable pub listed : (signals : List BufferedSignal) → (count : ℕ) → List BufferedSignal
+listed signals count = take count signals
 
--- The place of the oldest stored signal of a name.
+abbrev pub stored : State → List BufferedSignal
+stored state = listed (state .signals) (state .«signal_count»)
+
+-- The place of the oldest stored signal of a name, and the signal at a place.
 unfoldable pub first-signal : State → (signal : ℕ) → Found
-first-signal s n = first (λ x. eqb (x .signal) n) (λ i _. At i) Nothing 0 (stored s)
+first-signal state name = first (λ signal. eqb (signal .signal) name) (λ place _. At place) Nothing 0 (stored state)
 
-abbrev pub signal-at : State → (place : ℕ) → BufferedSignal
-signal-at s i = getD (s .signals) i no-signal
+unfoldable pub signal-at : State → (place : ℕ) → BufferedSignal
+signal-at state place = getD (stored state) place no-signal
 
 -- The signal stored at a place goes, and the later ones move down.
 unfoldable pub removed : State → (place : ℕ) → State
-removed s i = if ltb i (min store (s .«signal_count»)) then set-signals s (without no-signal (s .signals) i) (s .«signal_count» - 1) else s
+removed state place =
+    if ltb place (min store (state .«signal_count»))
+    then set-signals state (without no-signal (state .signals) place) (state .«signal_count» - 1)
+    else state
 
 -- The signal is stored behind the others; a full store stays as it is.
 unfoldable pub appended : State → BufferedSignal → State
-appended s x = if ltb (s .«signal_count») store then set-signals s (set (s .signals) (s .«signal_count») x) (s .«signal_count» + 1) else s
+appended state signal =
+    if ltb (state .«signal_count») store
+    then set-signals state (set (state .signals) (state .«signal_count») signal) (state .«signal_count» + 1)
+    else state
+
+-- The store's part of the run check: at most 64 signals, sequence numbers in range, and unused slots all zero.
+abbrev pub in-sequence : BufferedSignal → Bool
+in-sequence signal = leb (signal .sequence) largest
+
+abbrev pub signal-zero : BufferedSignal → Bool
+signal-zero signal =
+    eqb (signal .sequence) 0 and eqb (signal .«event_id») 0 and eqb (signal .signal) 0 and eqb (signal .outcome) 0 and eqb (signal .«data») 0
+
+unfoldable pub signals-fit : (signals : List BufferedSignal) → (count : ℕ) → Bool
+signals-fit signals count = leb count store and every in-sequence (listed signals count) and every signal-zero (drop count signals)
+
+abbrev pub store-fits : State → Bool
+store-fits state = signals-fit (state .signals) (state .«signal_count»)

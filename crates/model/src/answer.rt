@@ -1,5 +1,4 @@
 // What a call hands back.
-use crate::State;
 ghost use mathlib.Core.Path.{_≡_};
 ghost use Rattle.model.specs.Answers.{params-numbers, order-numbers, answer-numbers};
 
@@ -149,14 +148,4 @@ impl Answer {
             ],
         }
     }
-}
-
-// The answer, with the record and the lists that go with it.
-pub struct Decision {
-    pub notes: [Note; 65],
-    pub endings: [Ending; 65],
-    pub note_count: u32,
-    pub ending_count: u32,
-    pub answer: Answer,
-    pub state: State,
 }

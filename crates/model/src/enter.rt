@@ -7,11 +7,10 @@ use crate::Position;
 use crate::RunResult;
 use crate::State;
 use crate::Visits;
-use crate::answer::Ending;
-use crate::answer::Note;
 use crate::answer::Order;
 use crate::answer::Params;
 use crate::answer::ScheduleActivity;
+use crate::code;
 use crate::event::Evaluated;
 use crate::event::Mappings;
 use crate::moves::Move;
@@ -19,17 +18,18 @@ use crate::moves::Next;
 use crate::moves::no_ending;
 use crate::moves::no_note;
 use crate::moves::still;
+use crate::time::planned;
 use workflow::Found;
-use workflow::NODES;
-use workflow::NUMBERS;
-use workflow::code;
+use workflow::code as sheet;
+use workflow::layout::NODES;
+use workflow::layout::NUMBERS;
 ghost use mathlib.Core.Path.{_≡_};
 ghost use Prim.Native.Nat.{_+_, _<_};
 ghost use lib.ListN.{getD};
 ghost use Rattle.workflow.specs.View.{workflow};
 ghost use Rattle.model.specs.Record.{no-visits};
-ghost use Rattle.model.specs.Step.{answer, terminate, schedule, enter-activity, enter};
-ghost use Rattle.model.specs.EnterLaws.{value-of, halted, enter-with-params, enter-complete};
+ghost use Rattle.model.specs.Step.{answer, terminate, schedule, enter-activity, enter-await, enter-complete, enter};
+ghost use Rattle.model.specs.EnterLaws.{value-of, without-value, enter-with-params};
 
 // A count below a limit, and one more.
 fn one_more(count: u32, limit: u32) -> u32
@@ -103,16 +103,13 @@ impl State {
     }
 
     // The first attempt of an activity that was entered is ordered.
-    pub fn schedule(mut self, w: &[u32; NUMBERS], node: u32, input: u32, params: Params) -> Move
+    fn schedule(mut self, w: &[u32; NUMBERS], node: u32, input: u32, params: Params) -> Move
         ensures { λ r. ⌜ r ≡ schedule (workflow (now (w .entry))) self node input params ⌝ }
     {
         let visits = self.visits;
         let visit = visits_at(visits, node).count;
         let row = workflow::node_of(w, node);
-        let position = Position {
-            node: node,
-            visit: visit,
-        };
+        let position = Position::at(node, visit);
         let invocation = InvocationState {
             phase: code::SCHEDULED,
             node: node,
@@ -123,7 +120,7 @@ impl State {
             error: Kept::Nothing,
         };
         let ordered = ScheduleActivity {
-            not_before: self.last_accepted_at,
+            not_before: planned(w, self.last_accepted_at, 0),
             node: node,
             visit: visit,
             action: row.action,
@@ -140,21 +137,21 @@ impl State {
             note: no_note(),
             ending: no_ending(),
             order: Order::Schedule(ordered),
-            answers: 0,
+            read: 0,
         }
     }
 
     // A mapping that has no value: a fault fails the run at that node, else the call goes no further.
-    fn halt(
+    fn without_value(
         self,
         w: &[u32; NUMBERS],
         answer: Evaluated,
         node: u32,
         field: u32,
-        come_from: u32,
+        from: u32,
         read: u32,
     ) -> Move
-        ensures { λ r. ⌜ r ≡ halted (workflow (now (w .entry))) answer self node field «come_from» read ⌝ }
+        ensures { λ r. ⌜ r ≡ without-value (workflow (now (w .entry))) answer self node field from read ⌝ }
     {
         match answer {
             Evaluated::Value(_) => still(self, Next::Rest),
@@ -165,7 +162,7 @@ impl State {
                     detail: detail,
                 };
                 let mut failed = self.terminate(w, error);
-                failed.answers = read;
+                failed.read = read;
                 failed
             }
             Evaluated::Unencodable => still(self, Next::Refuse(code::UNENCODABLE)),
@@ -174,32 +171,26 @@ impl State {
                 Next::Wants {
                     node: node,
                     field: field,
-                    from: come_from,
+                    from,
                 },
             ),
         }
     }
 
     // An activity needs its input, then its params if any.
-    fn enter_activity(
-        self,
-        w: &[u32; NUMBERS],
-        node: u32,
-        come_from: u32,
-        mappings: Mappings,
-    ) -> Move
-        ensures { λ r. ⌜ r ≡ enter-activity (workflow (now (w .entry))) self node «come_from» mappings ⌝ }
+    fn enter_activity(self, w: &[u32; NUMBERS], node: u32, from: u32, mappings: Mappings) -> Move
+        ensures { λ r. ⌜ r ≡ enter-activity (workflow (now (w .entry))) self node from mappings ⌝ }
     {
         let answer = mappings.answer(0);
         let Found::At(input) = answer.value() else {
-            return self.halt(w, answer, node, code::FIELD_INPUT, come_from, 1);
+            return self.without_value(w, answer, node, code::FIELD_INPUT, from, 1);
         };
         let row = workflow::node_of(w, node);
         if row.has_params == 1 {
-            return self.enter_with_params(w, node, come_from, mappings, input);
+            return self.enter_with_params(w, node, from, mappings, input);
         }
         let mut ordered = self.schedule(w, node, input, Params::Nothing);
-        ordered.answers = 1;
+        ordered.read = 1;
         ordered
     }
 
@@ -208,18 +199,18 @@ impl State {
         self,
         w: &[u32; NUMBERS],
         node: u32,
-        come_from: u32,
+        from: u32,
         mappings: Mappings,
         input: u32,
     ) -> Move
-        ensures { λ r. ⌜ r ≡ enter-with-params (workflow (now (w .entry))) self node «come_from» mappings input ⌝ }
+        ensures { λ r. ⌜ r ≡ enter-with-params (workflow (now (w .entry))) self node from mappings input ⌝ }
     {
         let answer = mappings.answer(1);
         let Found::At(params) = answer.value() else {
-            return self.halt(w, answer, node, code::FIELD_PARAMS, come_from, 2);
+            return self.without_value(w, answer, node, code::FIELD_PARAMS, from, 2);
         };
         let mut ordered = self.schedule(w, node, input, Params::Handle(params));
-        ordered.answers = 2;
+        ordered.read = 2;
         ordered
     }
 
@@ -228,40 +219,47 @@ impl State {
         mut self,
         w: &[u32; NUMBERS],
         node: u32,
-        come_from: u32,
+        from: u32,
         mappings: Mappings,
     ) -> Move
-        ensures { λ r. ⌜ r ≡ enter-complete (workflow (now (w .entry))) self node «come_from» mappings ⌝ }
+        ensures { λ r. ⌜ r ≡ enter-complete (workflow (now (w .entry))) self node from mappings ⌝ }
     {
         let answer = mappings.answer(0);
         let Found::At(output) = answer.value() else {
-            return self.halt(w, answer, node, code::FIELD_OUTPUT, come_from, 1);
+            return self.without_value(w, answer, node, code::FIELD_OUTPUT, from, 1);
         };
         let result = RunResult {
             output: Output::Handle(output),
         };
         self = self.finished(code::RUN_COMPLETED, result);
         let mut done = still(self, Next::Rest);
-        done.answers = 1;
+        done.read = 1;
         done
     }
 
+    // An await-signal node waits there, and looks at the store.
+    fn enter_await(mut self, w: &[u32; NUMBERS], node: u32) -> Move
+        ensures { λ r. ⌜ r ≡ enter-await (workflow (now (w .entry))) self node ⌝ }
+    {
+        let visits = self.visits;
+        let position = Position::at(node, visits_at(visits, node).count);
+        let none = InvocationState::none();
+        self.status = code::WAITING;
+        self.position = position;
+        self.invocation = none;
+        still(self, Next::Consume)
+    }
+
     // Entering tests visits, then activations, then adds one to both; the rest is by the node's kind.
-    pub fn enter(
-        mut self,
-        w: &[u32; NUMBERS],
-        node: u32,
-        come_from: u32,
-        mappings: Mappings,
-    ) -> Move
-        ensures { λ r. ⌜ r ≡ enter (workflow (now (w .entry))) self node «come_from» mappings ⌝ }
+    pub fn enter(mut self, w: &[u32; NUMBERS], node: u32, from: u32, mappings: Mappings) -> Move
+        ensures { λ r. ⌜ r ≡ enter (workflow (now (w .entry))) self node from mappings ⌝ }
     {
         let n = node as usize;
-        if workflow::capped(w[workflow::NODE_COUNT], NODES) <= n {
-            return still(self, Next::Refuse(code::ASTRAY));
+        if workflow::capped(w[workflow::layout::NODE_COUNT], NODES) <= n {
+            return still(self, Next::Refuse(code::INVARIANT));
         }
         let visits = self.visits[n].count;
-        if w[workflow::MAX_VISITS_PER_NODE] <= visits {
+        if w[workflow::layout::MAX_VISITS_PER_NODE] <= visits {
             let error = ErrorInfo {
                 code: code::VISITS_EXCEEDED,
                 node: node,
@@ -269,7 +267,7 @@ impl State {
             };
             return self.terminate(w, error);
         }
-        if w[workflow::MAX_ACTIVATIONS] <= self.activations {
+        if w[workflow::layout::MAX_ACTIVATIONS] <= self.activations {
             let error = ErrorInfo {
                 code: code::ACTIVATIONS_EXCEEDED,
                 node: node,
@@ -277,33 +275,19 @@ impl State {
             };
             return self.terminate(w, error);
         }
-        let visit = one_more(visits, w[workflow::MAX_VISITS_PER_NODE]);
-        let activations = one_more(self.activations, w[workflow::MAX_ACTIVATIONS]);
+        let visit = one_more(visits, w[workflow::layout::MAX_VISITS_PER_NODE]);
+        let activations = one_more(self.activations, w[workflow::layout::MAX_ACTIVATIONS]);
         self.visits[n] = Visits { count: visit };
         self.activations = activations;
         let row = workflow::node_of(w, node);
-        if row.kind == code::ACTIVITY {
-            return self.enter_activity(w, node, come_from, mappings);
+        if row.kind == sheet::ACTIVITY {
+            return self.enter_activity(w, node, from, mappings);
         }
-        if row.kind == code::AWAIT_SIGNAL {
-            let position = Position {
-                node: node,
-                visit: self.visits[n].count,
-            };
-            self.status = code::WAITING;
-            self.position = position;
-            self.invocation = InvocationState::none();
-            return Move {
-                state: self,
-                next: Next::Consume,
-                note: no_note(),
-                ending: no_ending(),
-                order: Order::Nothing,
-                answers: 0,
-            };
+        if row.kind == sheet::AWAIT_SIGNAL {
+            return self.enter_await(w, node);
         }
-        if row.kind == code::COMPLETE {
-            return self.enter_complete(w, node, come_from, mappings);
+        if row.kind == sheet::COMPLETE {
+            return self.enter_complete(w, node, from, mappings);
         }
         let error = ErrorInfo {
             code: row.code,

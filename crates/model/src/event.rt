@@ -41,13 +41,6 @@ pub struct Mappings {
     pub count: u32,
 }
 
-// What one call may use.
-pub struct Limits {
-    pub microsteps: u32,
-    pub commands: u32,
-    pub operations: u32,
-}
-
 // A mapping value as a node finds it.
 pub enum Evaluated {
     Value(u32),

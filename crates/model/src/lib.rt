@@ -1,22 +1,20 @@
 // The types of document 01 in the names of model.rs: the run record (`State`) with its accessors, events and answers.
 pub mod answer;
+pub mod code;
 pub mod enter;
 pub mod event;
-pub mod events;
-pub mod machine;
 pub mod moves;
-pub mod snapshot;
+pub mod retry;
+pub mod route;
+pub mod store;
+mod time;
 
-use workflow::Found;
-use workflow::NODES;
-use workflow::code;
+use workflow::code as sheet;
+use workflow::layout::NODES;
 ghost use mathlib.Core.Path.{_≡_};
-ghost use Prim.Native.Nat.{_<_, max};
-ghost use Rattle.laws.specs.Shift.{without};
-ghost use Rattle.workflow.specs.Code.{store};
-ghost use Rattle.model.specs.Record.{no-position, no-invocation, no-signal, fresh, visits-of, finished, is-terminal};
+ghost use Rattle.model.specs.Record.{no-position, no-invocation, no-signal, fresh, finished, is-terminal};
 ghost use Rattle.model.specs.Answers.{output-numbers, kept-numbers};
-ghost use Rattle.model.specs.Store.{first-signal, signal-at, removed};
+ghost use Rattle.model.specs.Step.{position};
 
 pub struct ErrorInfo {
     pub code: u32,
@@ -126,11 +124,18 @@ impl Kept {
 }
 
 impl Position {
+    // A position: the one place where one is made.
+    pub fn at(node: u32, visit: u32) -> Position
+        ensures { λ r. ⌜ r ≡ position node visit ⌝ }
+    {
+        Position { node, visit }
+    }
+
     pub fn none() -> Position
         ensures { λ r. ⌜ r ≡ no-position ⌝ }
     {
         Position {
-            node: code::NONE,
+            node: sheet::NONE,
             visit: 0,
         }
     }
@@ -142,7 +147,7 @@ impl InvocationState {
     {
         InvocationState {
             phase: 0,
-            node: code::NONE,
+            node: sheet::NONE,
             visit: 0,
             action: 0,
             attempt: 0,
@@ -200,16 +205,6 @@ impl State {
         }
     }
 
-    pub fn visits_of(self, node: u32) -> Visits
-        ensures { λ r. ⌜ r ≡ visits-of self node ⌝ }
-    {
-        let n = node as usize;
-        if n < NODES {
-            return self.visits[n];
-        }
-        Visits { count: 0 }
-    }
-
     // The run ends.
     pub fn finished(mut self, status: u32, result: RunResult) -> State
         ensures { λ r. ⌜ r ≡ finished self status result ⌝ }
@@ -220,56 +215,6 @@ impl State {
         self.result = result;
         self
     }
-
-    // The place of the oldest stored signal of a name.
-    pub fn first_signal(self, signal: u32) -> Found
-        ensures { λ r. ⌜ r ≡ first-signal self signal ⌝ }
-    {
-        let n = workflow::capped(self.signal_count, code::STORE);
-        let mut i: usize = 0;
-        while i < n {
-            let x = self.signals[i];
-            if x.signal == signal {
-                return Found::At(i as u32);
-            }
-            i += 1;
-        }
-        Found::Nothing
-    }
-
-    pub fn signal_at(self, place: u32) -> BufferedSignal
-        ensures { λ r. ⌜ r ≡ signal-at self place ⌝ }
-    {
-        let n = place as usize;
-        if n < code::STORE {
-            return self.signals[n];
-        }
-        BufferedSignal::none()
-    }
-
-    // The signal stored at a place goes, and the later ones move down.
-    pub fn remove_signal(mut self, place: u32) -> State
-        ensures { λ r. ⌜ r ≡ removed self place ⌝ }
-    {
-        let n = place as usize;
-        if workflow::capped(self.signal_count, code::STORE) <= n {
-            return self;
-        }
-        let old = self.signals;
-        let rest = shifted(old, n);
-        self.signals = rest;
-        self.signal_count = self.signal_count - 1;
-        self
-    }
-}
-
-fn later(a: u64, b: u64) -> u64
-    ensures { λ r. ⌜ r ≡ max a b ⌝ }
-{
-    if a < b {
-        return b;
-    }
-    a
 }
 
 // A run has ended when it is completed or failed.
@@ -280,24 +225,4 @@ pub fn is_terminal(status: u32) -> bool
         return true;
     }
     status == code::RUN_FAILED
-}
-
-// The last place of the store.
-const LAST: usize = code::STORE - 1;
-
-fn shifted(
-    mut signals: [BufferedSignal; code::STORE],
-    start: usize,
-) -> [BufferedSignal; code::STORE]
-    requires { ⌜ start < store ⌝ }
-    ensures { λ r. ⌜ r ≡ without no-signal signals start ⌝ }
-{
-    let mut k = start;
-    while k < LAST {
-        let x = signals[k + 1];
-        signals[k] = x;
-        k += 1;
-    }
-    signals[LAST] = BufferedSignal::none();
-    signals
 }

@@ -30,7 +30,7 @@ pub struct Move {
     pub note: Note,
     pub ending: Ending,
     pub order: Order,
-    pub answers: u32,
+    pub read: u32,
 }
 
 pub fn no_note() -> Note
@@ -64,6 +64,6 @@ pub fn still(state: State, next: Next) -> Move
         note: no_note(),
         ending: no_ending(),
         order: Order::Nothing,
-        answers: 0,
+        read: 0,
     }
 }

@@ -25,13 +25,15 @@ const INDEX: u32 = 2;
 
 const VALUE: u32 = 3;
 
-const SHEET: usize = 4169;
+const SHEET: usize = workflow::layout::NUMBERS;
 
-const CALL: usize = 38;
+const SHEET_END: u64 = SHEET as u64;
 
-const RECORD: usize = 918;
+const CALL: usize = host::layout::CALL;
 
-const ANSWER: usize = 1386;
+const RECORD: usize = host::layout::RECORD;
+
+const ANSWER: usize = host::layout::ANSWER;
 
 fn clear(
     kind: u64,
@@ -64,7 +66,7 @@ fn store(
     record: &mut [u64; RECORD],
     answer: &mut [u64; ANSWER],
 ) {
-    if 4169 <= index {
+    if SHEET_END <= index {
         return;
     }
     let i = index as usize;

@@ -2,10 +2,10 @@
 use mathlib.Core.Path.{_≡_}
 use mathlib.Core.Bool.{true}
 use Prim.Native.Nat.{ℕ, _≤_, _<_}
-use Rattle.workflow.specs.Code.{node-room, exhausted, activity}
+use Rattle.workflow.specs.Code.{exhausted, activity}
+use Rattle.workflow.specs.Layout.{node-room}
 use Rattle.workflow.specs.View.{Workflow}
 use Rattle.workflow.specs.Lookup.{node-of, route-of, routed, limit-of, declares}
-use Rattle.workflow.specs.declared.Node.{Node}
 use Rattle.workflow.specs.declared.Found.the-variants.{At}
 
 pub record Sound (f : Workflow) : Type 0 where

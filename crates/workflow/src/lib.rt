@@ -1,76 +1,13 @@
 // The sheet (`Workflow`), lent as one array of numbers with a column for each field of its rows, and the lookups in it.
 pub mod code;
+pub mod layout;
 
+use crate::layout::NUMBERS;
 ghost use mathlib.Core.Path.{_≡_};
 ghost use Prim.Native.Nat.{min};
 ghost use Rattle.workflow.specs.View.{workflow, no-node, node-at, route-at, limit-at, action-at, declared-at};
-ghost use Rattle.workflow.specs.Lookup.{node-of, policy-of, are, route-of, limit-of, declares};
-
-// Where each number stands: docs/NUMBERS.md.
-pub const NUMBERS: usize = 4169;
-
-pub const FORMAT: usize = 0;
-
-pub const START: usize = 1;
-
-pub const MAX_VISITS_PER_NODE: usize = 2;
-
-pub const MAX_ACTIVATIONS: usize = 3;
-
-pub const NODE_COUNT: usize = 4;
-
-pub const ROUTE_COUNT: usize = 5;
-
-pub const LIMIT_COUNT: usize = 6;
-
-pub const ACTION_COUNT: usize = 7;
-
-pub const DECLARED_COUNT: usize = 8;
-
-pub const NODE_KIND: usize = 9;
-
-pub const NODE_ACTION: usize = 73;
-
-pub const NODE_HAS_PARAMS: usize = 137;
-
-pub const NODE_SIGNAL: usize = 201;
-
-pub const NODE_CODE: usize = 265;
-
-pub const NODE_DETAIL: usize = 329;
-
-pub const NODE_HAS_LIMITS: usize = 393;
-
-pub const ROUTE_NODE: usize = 457;
-
-pub const ROUTE_OUTCOME: usize = 969;
-
-pub const ROUTE_TARGET: usize = 1481;
-
-pub const LIMIT_NODE: usize = 1993;
-
-pub const LIMIT_OUTCOME: usize = 2505;
-
-pub const LIMIT_LIMIT: usize = 3017;
-
-pub const ACTION_EFFECT: usize = 3529;
-
-pub const ACTION_MAX_ATTEMPTS: usize = 3593;
-
-pub const DECLARED_ACTION: usize = 3657;
-
-pub const DECLARED_OUTCOME: usize = 3913;
-
-// How many rows of each sort there is room for.
-pub const NODES: usize = 64;
-
-pub const ROUTES: usize = 512;
-
-pub const LIMITS: usize = 512;
-
-pub const ACTIONS: usize = 64;
-
-pub const DECLARED: usize = 256;
+ghost use Rattle.workflow.specs.Lookup.{found, is-0-2, node-of, policy-of, are, route-of, limit-of, declares};
+ghost use Rattle.workflow.specs.RowLaws.{Columns, find-row};
 
 pub struct Node {
     pub kind: u32,
@@ -104,14 +41,6 @@ pub struct Declared {
     pub outcome: u32,
 }
 
-// The largest numbers that a sheet may ask for.
-pub struct Ceilings {
-    pub nodes: u32,
-    pub visits: u32,
-    pub activations: u32,
-    pub attempts: u32,
-}
-
 // What a lookup finds.
 pub enum Found {
     At(u32),
@@ -131,15 +60,15 @@ pub fn capped(count: u32, room: usize) -> usize
 pub fn node_at(w: &[u32; NUMBERS], i: usize) -> Node
     ensures { λ r. ⌜ r ≡ node-at (now (w .entry)) i ⌝ }
 {
-    if i < NODES {
+    if i < layout::NODES {
         return Node {
-            kind: w[NODE_KIND + i],
-            action: w[NODE_ACTION + i],
-            has_params: w[NODE_HAS_PARAMS + i],
-            signal: w[NODE_SIGNAL + i],
-            code: w[NODE_CODE + i],
-            detail: w[NODE_DETAIL + i],
-            has_limits: w[NODE_HAS_LIMITS + i],
+            kind: w[layout::NODE_KIND + i],
+            action: w[layout::NODE_ACTION + i],
+            has_params: w[layout::NODE_HAS_PARAMS + i],
+            signal: w[layout::NODE_SIGNAL + i],
+            code: w[layout::NODE_CODE + i],
+            detail: w[layout::NODE_DETAIL + i],
+            has_limits: w[layout::NODE_HAS_LIMITS + i],
         };
     }
     no_node()
@@ -148,11 +77,11 @@ pub fn node_at(w: &[u32; NUMBERS], i: usize) -> Node
 pub fn route_at(w: &[u32; NUMBERS], i: usize) -> Route
     ensures { λ r. ⌜ r ≡ route-at (now (w .entry)) i ⌝ }
 {
-    if i < ROUTES {
+    if i < layout::ROUTES {
         return Route {
-            node: w[ROUTE_NODE + i],
-            outcome: w[ROUTE_OUTCOME + i],
-            target: w[ROUTE_TARGET + i],
+            node: w[layout::ROUTE_NODE + i],
+            outcome: w[layout::ROUTE_OUTCOME + i],
+            target: w[layout::ROUTE_TARGET + i],
         };
     }
     Route {
@@ -165,11 +94,11 @@ pub fn route_at(w: &[u32; NUMBERS], i: usize) -> Route
 pub fn limit_at(w: &[u32; NUMBERS], i: usize) -> Limit
     ensures { λ r. ⌜ r ≡ limit-at (now (w .entry)) i ⌝ }
 {
-    if i < LIMITS {
+    if i < layout::LIMITS {
         return Limit {
-            node: w[LIMIT_NODE + i],
-            outcome: w[LIMIT_OUTCOME + i],
-            limit: w[LIMIT_LIMIT + i],
+            node: w[layout::LIMIT_NODE + i],
+            outcome: w[layout::LIMIT_OUTCOME + i],
+            limit: w[layout::LIMIT_LIMIT + i],
         };
     }
     Limit {
@@ -182,10 +111,10 @@ pub fn limit_at(w: &[u32; NUMBERS], i: usize) -> Limit
 pub fn action_at(w: &[u32; NUMBERS], i: usize) -> Action
     ensures { λ r. ⌜ r ≡ action-at (now (w .entry)) i ⌝ }
 {
-    if i < ACTIONS {
+    if i < layout::ACTIONS {
         return Action {
-            effect: w[ACTION_EFFECT + i],
-            max_attempts: w[ACTION_MAX_ATTEMPTS + i],
+            effect: w[layout::ACTION_EFFECT + i],
+            max_attempts: w[layout::ACTION_MAX_ATTEMPTS + i],
         };
     }
     Action {
@@ -197,10 +126,10 @@ pub fn action_at(w: &[u32; NUMBERS], i: usize) -> Action
 pub fn declared_at(w: &[u32; NUMBERS], i: usize) -> Declared
     ensures { λ r. ⌜ r ≡ declared-at (now (w .entry)) i ⌝ }
 {
-    if i < DECLARED {
+    if i < layout::DECLARED {
         return Declared {
-            action: w[DECLARED_ACTION + i],
-            outcome: w[DECLARED_OUTCOME + i],
+            action: w[layout::DECLARED_ACTION + i],
+            outcome: w[layout::DECLARED_OUTCOME + i],
         };
     }
     Declared {
@@ -229,7 +158,7 @@ pub fn node_of(w: &[u32; NUMBERS], id: u32) -> Node
     ensures { λ r. ⌜ r ≡ node-of (workflow (now (w .entry))) id ⌝ }
 {
     let n = id as usize;
-    if n < capped(w[NODE_COUNT], NODES) {
+    if n < capped(w[layout::NODE_COUNT], layout::NODES) {
         return node_at(w, n);
     }
     no_node()
@@ -239,13 +168,20 @@ pub fn policy_of(w: &[u32; NUMBERS], action: u32) -> Action
     ensures { λ r. ⌜ r ≡ policy-of (workflow (now (w .entry))) action ⌝ }
 {
     let n = action as usize;
-    if n < capped(w[ACTION_COUNT], ACTIONS) {
+    if n < capped(w[layout::ACTION_COUNT], layout::ACTIONS) {
         return action_at(w, n);
     }
     Action {
         effect: 0,
         max_attempts: 0,
     }
+}
+
+// Format 2, the 0.2 document.
+pub fn is_0_2(w: &[u32; NUMBERS]) -> bool
+    ensures { λ r. ⌜ r ≡ is-0-2 (workflow (now (w .entry))) ⌝ }
+{
+    w[layout::FORMAT] == code::FORMAT_0_2
 }
 
 fn are(a: u32, b: u32, x: u32, y: u32) -> bool
@@ -257,47 +193,80 @@ fn are(a: u32, b: u32, x: u32, y: u32) -> bool
     false
 }
 
-pub fn find_route(w: &[u32; NUMBERS], node: u32, outcome: u32) -> Found
-    ensures { λ r. ⌜ r ≡ route-of (workflow (now (w .entry))) node outcome ⌝ }
+// The value in the first row, of the first `count`, whose two keys are x and y.
+fn find_row(
+    w: &[u32; NUMBERS],
+    major: usize,
+    minor: usize,
+    value: usize,
+    count: usize,
+    x: u32,
+    y: u32,
+) -> Found
+    requires { ⌜ Columns major minor value count ⌝ }
+    ensures { λ r. ⌜ r ≡ find-row (now (w .entry)) major minor value count x y ⌝ }
 {
-    let n = capped(w[ROUTE_COUNT], ROUTES);
     let mut i: usize = 0;
-    while i < n {
-        let x = route_at(w, i);
-        if are(x.node, x.outcome, node, outcome) {
-            return Found::At(x.target);
+    while i < count {
+        if are(w[major + i], w[minor + i], x, y) {
+            return Found::At(w[value + i]);
         }
         i += 1;
     }
     Found::Nothing
+}
+
+pub fn find_route(w: &[u32; NUMBERS], node: u32, outcome: u32) -> Found
+    ensures { λ r. ⌜ r ≡ route-of (workflow (now (w .entry))) node outcome ⌝ }
+{
+    let count = capped(w[layout::ROUTE_COUNT], layout::ROUTES);
+    find_row(
+        w,
+        layout::ROUTE_NODE,
+        layout::ROUTE_OUTCOME,
+        layout::ROUTE_TARGET,
+        count,
+        node,
+        outcome,
+    )
 }
 
 pub fn find_limit(w: &[u32; NUMBERS], node: u32, outcome: u32) -> Found
     ensures { λ r. ⌜ r ≡ limit-of (workflow (now (w .entry))) node outcome ⌝ }
 {
-    let n = capped(w[LIMIT_COUNT], LIMITS);
-    let mut i: usize = 0;
-    while i < n {
-        let x = limit_at(w, i);
-        if are(x.node, x.outcome, node, outcome) {
-            return Found::At(x.limit);
-        }
-        i += 1;
+    let count = capped(w[layout::LIMIT_COUNT], layout::LIMITS);
+    find_row(
+        w,
+        layout::LIMIT_NODE,
+        layout::LIMIT_OUTCOME,
+        layout::LIMIT_LIMIT,
+        count,
+        node,
+        outcome,
+    )
+}
+
+fn is_found(x: Found) -> bool
+    ensures { λ r. ⌜ r ≡ found x ⌝ }
+{
+    match x {
+        Found::At(_) => true,
+        Found::Nothing => false,
     }
-    Found::Nothing
 }
 
 pub fn declares(w: &[u32; NUMBERS], action: u32, outcome: u32) -> bool
     ensures { λ r. ⌜ r ≡ declares (workflow (now (w .entry))) action outcome ⌝ }
 {
-    let n = capped(w[DECLARED_COUNT], DECLARED);
-    let mut i: usize = 0;
-    while i < n {
-        let x = declared_at(w, i);
-        if are(x.action, x.outcome, action, outcome) {
-            return true;
-        }
-        i += 1;
-    }
-    false
+    let count = capped(w[layout::DECLARED_COUNT], layout::DECLARED);
+    let row = find_row(
+        w,
+        layout::DECLARED_ACTION,
+        layout::DECLARED_OUTCOME,
+        layout::DECLARED_OUTCOME,
+        count,
+        action,
+        outcome,
+    );
+    is_found(row)
 }

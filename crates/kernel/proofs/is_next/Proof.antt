@@ -2,18 +2,13 @@ use borrow.Author.Needs.{needs}
 use Rattle.laws.specs.Tests.{zero-next, eqb-next}
 use Rattle.kernel.proofs.is_next.Statement.{statement}
 use Rattle.kernel.proofs.is_next.Tie as tie
-use Rattle.kernel.proofs.is_next.Reads as reads
-use Rattle.kernel.proofs.is_next.Lts as lts
 
--- src/lib.rt:43:9
 returns : tie.Need-returns
 returns c = zero-next _ _ (c .if1 .taken)
 
--- src/lib.rt:45:5
 sub-result : tie.Need-sub-result
 sub-result c = search needs
 
--- src/lib.rt:39:1
 returns-2 : tie.Need-returns-2
 returns-2 c = eqb-next _ _ (c .if1 .left)
 

@@ -1,36 +1,25 @@
 use borrow.Author.Needs.{needs}
-use Rattle.graph.specs.Stages.{stops, goes-on, ends-with}
+use Rattle.graph.specs.Chain.{stops, goes-on, ends}
 use Rattle.kernel.specs.Call.{start-stage}
 use Rattle.kernel.proofs.start_stage.Statement.{statement}
 use Rattle.kernel.proofs.start_stage.Tie as tie
-use Rattle.kernel.proofs.start_stage.Reads as reads
-use Rattle.kernel.proofs.start_stage.Lts as lts
 
--- src/lib.rt:41:9
-held-requires : tie.Need-held-requires
-held-requires c κs = search needs
+rule-requires : tie.Need-rule-requires
+rule-requires c κs = search needs
 
--- src/lib.rt:42:30
-enum-known-start : tie.Need-enum-known-start
-enum-known-start c = search needs
+is-broken-requires : tie.Need-is-broken-requires
+is-broken-requires c κs = search needs
 
--- src/lib.rt:43:9
 returns : tie.Need-returns
 unfolding start-stage
-returns c = stops _ _ _ (c .before .before .before .held .ensures) (c .before .start .given .1)
+returns c = stops _ (c .before .before .rule .ensures) (c .before .is-broken .ensures) (c .if1 .taken)
 
-enum-told : tie.Need-enum-told
-enum-told c = search needs
+rule-requires-2 : tie.Need-rule-requires-2
+rule-requires-2 c κs = search needs
 
--- src/lib.rt:45:5
-held-requires-2 : tie.Need-held-requires-2
-held-requires-2 c κs = search needs
-
--- src/lib.rt:38:1
 returns-2 : tie.Need-returns-2
 unfolding start-stage
-returns-2 c = goes-on _ _ (c .before .before .before .held .ensures) (c .before .enum-told .given .1) (ends-with (c .held2 .ensures))
+returns-2 c = goes-on _ (c .before .before .before .rule .ensures) (c .before .before .is-broken .ensures) (c .before .if1 .left) (ends (c .rule2 .ensures))
 
 pub start-stage-spec : {M : Type 1} → statement M
-start-stage-spec =
-    tie.close (tie.spec held-requires enum-known-start returns enum-told held-requires-2 returns-2)
+start-stage-spec = tie.close (tie.spec rule-requires is-broken-requires returns rule-requires-2 returns-2)

@@ -5,49 +5,34 @@ use Rattle.kernel.specs.Admission.{room-of, is-away, is-given, is-fresh,
 use borrow.Author.Needs.{needs}
 use Rattle.kernel.proofs.transition.Statement.{statement}
 use Rattle.kernel.proofs.transition.Tie as tie
-use Rattle.kernel.proofs.transition.Reads as reads
-use Rattle.kernel.proofs.transition.Lts as lts
-use Rattle.kernel.proofs.admit.Reads as admit-reads
-use Rattle.kernel.proofs.drive.drive.Reads as drive-reads
-use Rattle.kernel.proofs.drive.refusal.Reads as refusal-reads
-use Rattle.model.proofs.State.fresh.Reads as fresh-reads
 
--- src/lib.rt:89:9
 admit-requires : tie.Need-admit-requires
 admit-requires c κs = search needs
 
--- src/lib.rt:90:30
 enum-known-verdict : tie.Need-enum-known-verdict
 enum-known-verdict c = search needs
 
--- src/lib.rt:91:9
 refusal-requires : tie.Need-refusal-requires
 refusal-requires c κs = search needs
 
--- src/lib.rt:91:9
 returns : tie.Need-returns
 returns c = rw (c .refusal .ensures) (is-away _ (c .before .before .before .before .before .args .s) (c .before .before .before .before .before .args .c) (c .before .before .before .before .before .args .has-record) _ _ (sym (c .before .before .verdict .given .1) ∙ c .before .before .before .before .admit .ensures))
 
 enum-told : tie.Need-enum-told
 enum-told c = search needs
 
--- src/lib.rt:97:9
 drive-requires : tie.Need-drive-requires
 drive-requires c κs = room-of _ (c .before .before .before .before .before .before .before .args .s) (c .before .before .before .before .before .before .before .args .c) (c .before .before .before .before .before .before .before .args .has-record) (c .if1 .taken) (sym (c .before .before .before .before .enum-told .given .1) ∙ c .before .before .before .before .before .before .admit .ensures)
 
--- src/lib.rt:97:9
 returns-2 : tie.Need-returns-2
 returns-2 c = rw (c .drive .ensures) (is-stepped _ (c .before .before .before .before .before .before .before .before .args .s) (c .before .before .before .before .before .before .before .before .args .c) (c .before .before .before .before .before .before .before .before .args .has-record) _ (is-given (c .before .before .before .before .before .before .before .before .args .s) (c .before .before .before .before .before .before .before .before .args .c) (c .before .before .before .before .before .before .before .before .args .has-record) (c .before .if1 .taken)) (sym (c .before .before .before .before .before .enum-told .given .1) ∙ c .before .before .before .before .before .before .before .admit .ensures))
 
--- src/lib.rt:99:21
 fresh-requires : tie.Need-fresh-requires
 fresh-requires c κs = search needs
 
--- src/lib.rt:99:5
 drive-requires-2 : tie.Need-drive-requires-2
 drive-requires-2 c κs = omega (arith, ap (λ (s : State). s .«signal_count») (c .fresh .ensures))
 
--- src/lib.rt:86:1
 returns-3 : tie.Need-returns-3
 returns-3 c =
     rw (c .drive2 .ensures, c .before .fresh .ensures) (is-stepped _ (c .before .before .before .before .before .before .before .before .before .args .s) (c .before .before .before .before .before .before .before .before .before .args .c) (c .before .before .before .before .before .before .before .before .before .args .has-record) _ (is-fresh (c .before .before .before .before .before .before .before .before .before .args .s) (c .before .before .before .before .before .before .before .before .before .args .c) (c .before .before .before .before .before .before .before .before .before .args .has-record) (c .before .before .if1 .left)) (sym (c .before .before .before .before .before .before .enum-told .given .1) ∙ c .before .before .before .before .before .before .before .before .admit .ensures))

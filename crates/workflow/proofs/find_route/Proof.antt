@@ -1,65 +1,20 @@
 use borrow.Author.Needs.{needs}
-use native.Mathlib.Omega.{arith}
-use mathlib.Core.Path.{_≡_}
-use Rattle.workflow.specs.declared.Found.the-variants.{At, Nothing}
-use Prim.Native.Nat.{_-_, min}
-use lib.ListN.{getD}
-use Rattle.laws.specs.First.{Seek, seek-start, seek-hit, seek-miss, seek-end}
-use Rattle.workflow.specs.View.{workflow, route-at}
-use Rattle.workflow.specs.Lookup.{is-route, route-of}
+use Rattle.workflow.specs.RowLaws.{find-route}
 use Rattle.workflow.proofs.find_route.Statement.{statement}
 use Rattle.workflow.proofs.find_route.Tie as tie
 
-abbrev Inv-loop : tie.InvT-loop
-Inv-loop w node outcome n i₀ i = (n ≡ min 512 (getD w 5 0)) × Seek (is-route node outcome) (λ _ x. At (x .target)) Nothing (route-at w) (min 512 (getD w 5 0)) i (route-of (workflow w) node outcome)
-
-abbrev μ-loop : tie.MeasureT-loop
-μ-loop w node outcome n i₀ i = n - i
-
-element-copy-out-capped : tie.Need-element-copy-out-capped Inv-loop μ-loop
+element-copy-out-capped : tie.Need-element-copy-out-capped
 element-copy-out-capped c = search needs
 
-capped-requires : tie.Need-capped-requires Inv-loop μ-loop
+capped-requires : tie.Need-capped-requires
 capped-requires c κs = search needs
 
-loop-holds : tie.Need-loop-holds Inv-loop μ-loop
-unfolding route-of
-loop-holds c = (c .capped .ensures, seek-start)
+find-row-requires : tie.Need-find-row-requires
+find-row-requires c κs = search needs
 
-route-at-requires : tie.Need-route-at-requires Inv-loop μ-loop
-route-at-requires c κs = search needs
-
-are-requires : tie.Need-are-requires Inv-loop μ-loop
-are-requires c κs = search needs
-
-returns : tie.Need-returns Inv-loop μ-loop
-returns c = seek-hit (c .before .before .before .before .loop .inv .1) (omega arith) (c .before .before .route-at .ensures) (c .before .are .ensures) (c .if1 .taken)
-
-add-i : tie.Need-add-i Inv-loop μ-loop
-add-i c = search needs
-
-loop-less : tie.Need-loop-less Inv-loop μ-loop
-loop-less c = search needs
-
-loop-again : tie.Need-loop-again Inv-loop μ-loop
-loop-again c = (c .before .before .before .before .loop .inv .0, seek-miss (c .before .before .before .before .loop .inv .1) (omega arith) (c .before .before .route-at .ensures) (c .before .are .ensures) (c .if1 .left))
-
-returns-2 : tie.Need-returns-2 Inv-loop μ-loop
-returns-2 c = seek-end (c .before .loop .inv .1) (omega arith)
+returns : tie.Need-returns
+returns c = rw (c .find-row .ensures, c .before .capped .ensures) (find-route _ _ _)
 
 pub find-route-spec : {M : Type 1} → statement M
 find-route-spec =
-    tie.close
-    (tie.spec
-    Inv-loop
-    μ-loop
-    element-copy-out-capped
-    capped-requires
-    loop-holds
-    route-at-requires
-    are-requires
-    returns
-    add-i
-    loop-less
-    loop-again
-    returns-2)
+    tie.close (tie.spec element-copy-out-capped capped-requires find-row-requires returns)

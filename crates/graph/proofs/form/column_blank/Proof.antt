@@ -8,6 +8,7 @@ use Rattle.graph.specs.FormLaws.{Dirt, dirt-start, dirt-more, dirt-end}
 use Rattle.graph.proofs.form.column_blank.Statement.{statement}
 use Rattle.graph.proofs.form.column_blank.Tie as tie
 
+-- the digits seen so far and the numbers from i on together give the whole answer
 abbrev Inv-loop : tie.InvT-loop
 Inv-loop w column room count end dirt₀ i₀ dirt i = (end ≡ column + room) × Dirt (λ j. getD w j 0) (column + room) i dirt (column-blank w column room count)
 

@@ -1,8 +1,12 @@
 use borrow.Author.Needs.{needs}
-use Rattle.laws.specs.Bool.{strict-and, and-left}
-use Rattle.graph.specs.FormLaws.{limits-blank}
+use Rattle.workflow.specs.View.{table-blank}
+use Rattle.laws.specs.Every.{every}
+use Rattle.laws.specs.Bool.{and-true, strict-and, and-left}
 use Rattle.graph.proofs.form.limits_blank.Statement.{statement}
 use Rattle.graph.proofs.form.limits_blank.Tie as tie
+
+element-copy-out-count : tie.Need-element-copy-out-count
+element-copy-out-count c = search needs
 
 column-blank-requires : tie.Need-column-blank-requires
 column-blank-requires c κs = search needs
@@ -14,10 +18,15 @@ column-blank-requires-3 : tie.Need-column-blank-requires-3
 column-blank-requires-3 c κs = search needs
 
 returns : tie.Need-returns
-unfolding limits-blank
-returns c = simp (← c .before .before .column-blank .ensures, ← c .before .column-blank2 .ensures, ← c .column-blank3 .ensures) (simp and-left (simp strict-and))
+unfolding table-blank every
+returns c = simp (← c .before .before .column-blank .ensures, ← c .before .column-blank2 .ensures, ← c .column-blank3 .ensures) (simp and-left (simp (← and-true, strict-and)))
 
 pub limits-blank-spec : {M : Type 1} → statement M
 limits-blank-spec =
     tie.close
-    (tie.spec column-blank-requires column-blank-requires-2 column-blank-requires-3 returns)
+    (tie.spec
+    element-copy-out-count
+    column-blank-requires
+    column-blank-requires-2
+    column-blank-requires-3
+    returns)

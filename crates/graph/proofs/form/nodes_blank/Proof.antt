@@ -1,8 +1,12 @@
 use borrow.Author.Needs.{needs}
-use Rattle.laws.specs.Bool.{strict-and, and-left}
-use Rattle.graph.specs.FormLaws.{nodes-blank}
+use Rattle.workflow.specs.View.{table-blank}
+use Rattle.laws.specs.Every.{every}
+use Rattle.laws.specs.Bool.{and-true, strict-and, and-left}
 use Rattle.graph.proofs.form.nodes_blank.Statement.{statement}
 use Rattle.graph.proofs.form.nodes_blank.Tie as tie
+
+element-copy-out-count : tie.Need-element-copy-out-count
+element-copy-out-count c = search needs
 
 column-blank-requires : tie.Need-column-blank-requires
 column-blank-requires c κs = search needs
@@ -26,13 +30,14 @@ column-blank-requires-7 : tie.Need-column-blank-requires-7
 column-blank-requires-7 c κs = search needs
 
 returns : tie.Need-returns
-unfolding nodes-blank
-returns c = simp (← c .before .before .before .before .before .before .column-blank .ensures, ← c .before .before .before .before .before .column-blank2 .ensures, ← c .before .before .before .before .column-blank3 .ensures, ← c .before .before .before .column-blank4 .ensures, ← c .before .before .column-blank5 .ensures, ← c .before .column-blank6 .ensures, ← c .column-blank7 .ensures) (simp and-left (simp strict-and))
+unfolding table-blank every
+returns c = simp (← c .before .before .before .before .before .before .column-blank .ensures, ← c .before .before .before .before .before .column-blank2 .ensures, ← c .before .before .before .before .column-blank3 .ensures, ← c .before .before .before .column-blank4 .ensures, ← c .before .before .column-blank5 .ensures, ← c .before .column-blank6 .ensures, ← c .column-blank7 .ensures) (simp and-left (simp (← and-true, strict-and)))
 
 pub nodes-blank-spec : {M : Type 1} → statement M
 nodes-blank-spec =
     tie.close
     (tie.spec
+    element-copy-out-count
     column-blank-requires
     column-blank-requires-2
     column-blank-requires-3

@@ -1,66 +1,20 @@
 use borrow.Author.Needs.{needs}
-use native.Mathlib.Omega.{arith}
-use mathlib.Core.Path.{_≡_, ap}
-use mathlib.Core.Bool.{not, true, false}
-use Prim.Native.Nat.{_-_, min}
-use lib.ListN.{getD}
-use Rattle.laws.specs.First.{Seek, seek-hit, seek-miss, seek-end}
-use Rattle.workflow.specs.View.{workflow, node-at}
-use Rattle.graph.specs.Form.{node-fits}
-use Rattle.graph.specs.FormLaws.{nodes-formed, every-start}
+use Rattle.graph.specs.FormLaws.{all-nodes}
 use Rattle.graph.proofs.form.nodes_formed.Statement.{statement}
 use Rattle.graph.proofs.form.nodes_formed.Tie as tie
 
-abbrev Inv-loop : tie.InvT-loop
-Inv-loop w n i₀ i = (n ≡ min 64 (getD w 4 0)) × Seek (λ x. not (node-fits x)) (λ _ _. false) true (node-at w) (min 64 (getD w 4 0)) i (nodes-formed (workflow w))
-
-abbrev μ-loop : tie.MeasureT-loop
-μ-loop w n i₀ i = n - i
-
-element-copy-out-capped : tie.Need-element-copy-out-capped Inv-loop μ-loop
+element-copy-out-capped : tie.Need-element-copy-out-capped
 element-copy-out-capped c = search needs
 
-capped-requires : tie.Need-capped-requires Inv-loop μ-loop
+capped-requires : tie.Need-capped-requires
 capped-requires c κs = search needs
 
-loop-holds : tie.Need-loop-holds Inv-loop μ-loop
-unfolding nodes-formed
-loop-holds c = (c .capped .ensures, every-start node-fits)
+formed-rows-requires : tie.Need-formed-rows-requires
+formed-rows-requires c κs = search needs
 
-node-at-requires : tie.Need-node-at-requires Inv-loop μ-loop
-node-at-requires c κs = search needs
-
-node-fits-requires : tie.Need-node-fits-requires Inv-loop μ-loop
-node-fits-requires c κs = search needs
-
-returns : tie.Need-returns Inv-loop μ-loop
-returns c = seek-hit (c .before .before .before .before .loop .inv .1) (omega arith) (c .before .before .node-at .ensures) (ap not (c .before .node-fits .ensures)) (c .if1 .taken)
-
-add-i : tie.Need-add-i Inv-loop μ-loop
-add-i c = search needs
-
-loop-less : tie.Need-loop-less Inv-loop μ-loop
-loop-less c = search needs
-
-loop-again : tie.Need-loop-again Inv-loop μ-loop
-loop-again c = (c .before .before .before .before .loop .inv .0, seek-miss (c .before .before .before .before .loop .inv .1) (omega arith) (c .before .before .node-at .ensures) (ap not (c .before .node-fits .ensures)) (c .if1 .left))
-
-returns-2 : tie.Need-returns-2 Inv-loop μ-loop
-returns-2 c = seek-end (c .before .loop .inv .1) (omega arith)
+returns : tie.Need-returns
+returns c = rw (c .formed-rows .ensures, c .before .capped .ensures) (all-nodes _)
 
 pub nodes-formed-spec : {M : Type 1} → statement M
 nodes-formed-spec =
-    tie.close
-    (tie.spec
-    Inv-loop
-    μ-loop
-    element-copy-out-capped
-    capped-requires
-    loop-holds
-    node-at-requires
-    node-fits-requires
-    returns
-    add-i
-    loop-less
-    loop-again
-    returns-2)
+    tie.close (tie.spec element-copy-out-capped capped-requires formed-rows-requires returns)

@@ -5,6 +5,7 @@ use Rattle.workflow.specs.View.{workflow}
 use Rattle.graph.proofs.reach.closed.Statement.{statement}
 use Rattle.graph.proofs.reach.closed.Tie as tie
 
+-- the set lies within what is reached, each node that is done has its mask in it, and the frontier is what is left to do
 abbrev Inv-loop : tie.InvT-loop
 Inv-loop w back start masks set₀ done₀ frontier₀ set done frontier = Walk (workflow w) back start set done frontier
 

@@ -4,14 +4,15 @@ use native.Mathlib.Omega.{arith}
 use Prim.Native.Nat.{_-_, _≤_}
 use Rattle.laws.specs.Rows.{span}
 use Rattle.workflow.specs.View.{workflow}
-use Rattle.graph.specs.Sets.{ends-of}
+use Rattle.graph.specs.Sets.{with-ends}
 use Rattle.graph.specs.ReachLaws.{ends, ends-more, ends-end}
 use borrow.Author.Needs.{needs}
 use Rattle.graph.proofs.reach.ends.Statement.{statement}
 use Rattle.graph.proofs.reach.ends.Tie as tie
 
+-- the set with the ends among the nodes from i on is the whole answer
 abbrev Inv-loop : tie.InvT-loop
-Inv-loop w count set₀ i₀ set i = (count ≤ 64) × (ends-of (workflow w) (span (λ n. n) i count) set ≡ ends (workflow w))
+Inv-loop w count set₀ i₀ set i = (count ≤ 64) × (with-ends (workflow w) (span (λ n. n) i count) set ≡ ends (workflow w))
 
 abbrev μ-loop : tie.MeasureT-loop
 μ-loop w count set₀ i₀ set i = count - i

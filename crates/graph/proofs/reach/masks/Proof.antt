@@ -8,6 +8,7 @@ use borrow.Author.Needs.{needs}
 use Rattle.graph.proofs.reach.masks.Statement.{statement}
 use Rattle.graph.proofs.reach.masks.Tie as tie
 
+-- the masks with the routes from i on are the whole answer
 abbrev Inv-loop : tie.InvT-loop
 Inv-loop w back k ms₀ i₀ ms i = leads back (span (route-at w) i k) ms ≡ masks (workflow w) back
 

@@ -1,10 +1,10 @@
+use Rattle.workflow.specs.Layout as layout
 use mathlib.Core.Path.{refl, _∙_, ap}
 use Prim.Native.Nat.{_-_}
 use native.Mathlib.Omega.{arith}
-use lib.ListN.{getD}
 use borrow.Author.Needs.{needs}
 use Rattle.laws.specs.First.{seek-hit, seek-miss, seek-end}
-use Rattle.workflow.specs.View.{workflow}
+use Rattle.workflow.specs.View.{workflow, at}
 use Rattle.graph.specs.declared.Verdict.the-variants.{Fine}
 use Rattle.graph.specs.SearchLaws.{parts-of}
 use Rattle.graph.specs.RulesLaws.{actions-rise, the-group, Walking, walk-start}
@@ -12,8 +12,9 @@ use Rattle.graph.specs.Verdict.{is-broken, action-verdict, actions-verdi
 use Rattle.graph.proofs.rules.actions_verdict.Statement.{statement}
 use Rattle.graph.proofs.rules.actions_verdict.Tie as tie
 
+-- the rows of action i start at `from`, and the first broken verdict from i on is the whole answer
 abbrev Inv-loop : tie.InvT-loop
-Inv-loop w c n k from₀ i₀ from i = Walking (λ a. is-broken (action-verdict (workflow w) c a)) (λ _ a. action-verdict (workflow w) c a) Fine w 3657 k (getD w 7 0) from i (actions-verdict (workflow w) c)
+Inv-loop w c n k from₀ i₀ from i = Walking (λ a. is-broken (action-verdict (workflow w) c a)) (λ _ a. action-verdict (workflow w) c a) Fine w layout.declared-action k (at w layout.action-count) from i (actions-verdict (workflow w) c)
 
 abbrev μ-loop : tie.MeasureT-loop
 μ-loop w c n k from₀ i₀ from i = n - i

@@ -1,5 +1,5 @@
-use mathlib.Core.Path.{_∙_}
-use borrow.Author.Tests.{eq-eqb, ne-eqb}
+use mathlib.Core.Path.{sym, _∙_}
+use borrow.Author.Tests.{eq-eqb, ne-eqb, not-true, not-false}
 use borrow.Author.Needs.{needs}
 use Rattle.laws.specs.Bool.{_and_, _or_}
 use Rattle.graph.specs.RulesLaws.{limits-rise, the-group, limits-any, misses}
@@ -15,12 +15,12 @@ returns : tie.Need-returns
 unfolding breaks-12 _and_
 returns c = simp (← c .before .before .node-of .ensures, ne-eqb _ _ (c .if1 .taken))
 
-element-copy-out-if2 : tie.Need-element-copy-out-if2
-element-copy-out-if2 c = search needs
+is-0-2-requires : tie.Need-is-0-2-requires
+is-0-2-requires c κs = search needs
 
 returns-2 : tie.Need-returns-2
 unfolding breaks-12 _and_ _or_
-returns-2 c = simp (← c .before .before .before .before .node-of .ensures, eq-eqb _ _ (c .before .before .if1 .left), ne-eqb _ _ (c .if2 .taken))
+returns-2 c = simp (← c .before .before .before .before .node-of .ensures, eq-eqb _ _ (c .before .before .if1 .left), sym (c .before .is-0-2 .ensures) ∙ not-true _ (c .if2 .taken))
 
 element-copy-out-capped : tie.Need-element-copy-out-capped
 element-copy-out-capped c = search needs
@@ -36,14 +36,14 @@ rows-end-requires c κs = (c .rows-before .ensures ∙ below-before _ _ _ _ _, r
 
 returns-3 : tie.Need-returns-3
 unfolding breaks-12 _and_ _or_
-returns-3 c = simp (← c .before .before .before .before .before .before .before .before .before .node-of .ensures, eq-eqb _ _ (c .before .before .before .before .before .before .before .if1 .left), eq-eqb _ _ (c .before .before .before .before .before .if2 .left), limits-any (the-group (c .before .before .before .before .before .before .before .before .before .before .pre .formed) (c .before .before .before .capped .ensures) (c .before .before .rows-before .ensures ∙ below-before _ _ _ _ _) (c .before .rows-end .ensures)), eq-eqb _ _ (c .if3 .taken))
+returns-3 c = simp (← c .before .before .before .before .before .before .before .before .before .node-of .ensures, eq-eqb _ _ (c .before .before .before .before .before .before .before .if1 .left), sym (c .before .before .before .before .before .before .is-0-2 .ensures) ∙ not-false _ (c .before .before .before .before .before .if2 .left), limits-any (the-group (c .before .before .before .before .before .before .before .before .before .before .pre .formed) (c .before .before .before .capped .ensures) (c .before .before .rows-before .ensures ∙ below-before _ _ _ _ _) (c .before .rows-end .ensures)), eq-eqb _ _ (c .if3 .taken))
 
 misses-requires : tie.Need-misses-requires
 misses-requires c κs = (c .before .before .before .before .before .before .before .before .before .before .pre, the-group (c .before .before .before .before .before .before .before .before .before .before .pre .formed) (c .before .before .before .capped .ensures) (c .before .before .rows-before .ensures ∙ below-before _ _ _ _ _) (c .before .rows-end .ensures))
 
 returns-4 : tie.Need-returns-4
 unfolding breaks-12 misses _and_ _or_
-returns-4 c = simp (← c .before .before .before .before .before .before .before .before .before .before .node-of .ensures, eq-eqb _ _ (c .before .before .before .before .before .before .before .before .if1 .left), eq-eqb _ _ (c .before .before .before .before .before .before .if2 .left), limits-any (the-group (c .before .before .before .before .before .before .before .before .before .before .before .pre .formed) (c .before .before .before .before .capped .ensures) (c .before .before .before .rows-before .ensures ∙ below-before _ _ _ _ _) (c .before .before .rows-end .ensures)), ne-eqb _ _ (c .before .if3 .left), ← c .misses .ensures)
+returns-4 c = simp (← c .before .before .before .before .before .before .before .before .before .before .node-of .ensures, eq-eqb _ _ (c .before .before .before .before .before .before .before .before .if1 .left), sym (c .before .before .before .before .before .before .before .is-0-2 .ensures) ∙ not-false _ (c .before .before .before .before .before .before .if2 .left), limits-any (the-group (c .before .before .before .before .before .before .before .before .before .before .before .pre .formed) (c .before .before .before .before .capped .ensures) (c .before .before .before .rows-before .ensures ∙ below-before _ _ _ _ _) (c .before .before .rows-end .ensures)), ne-eqb _ _ (c .before .if3 .left), ← c .misses .ensures)
 
 pub breaks-12-spec : {M : Type 1} → statement M
 breaks-12-spec =
@@ -51,7 +51,7 @@ breaks-12-spec =
     (tie.spec
     node-of-requires
     returns
-    element-copy-out-if2
+    is-0-2-requires
     returns-2
     element-copy-out-capped
     capped-requires

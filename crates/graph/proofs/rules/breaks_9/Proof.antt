@@ -23,15 +23,15 @@ returns-3 : tie.Need-returns-3
 unfolding _and_ _or_
 returns-3 c = simp (breaks-9-at (c .before .before .before .before .before .before .pre), ← c .before .before .before .before .before .node-of .ensures, eq-eqb _ _ (c .before .before .before .if1 .left), ne-eqb _ _ (c .before .before .if2 .left), ← c .before .routes-exhausted .ensures, c .if3 .taken)
 
-element-copy-out-has-astray : tie.Need-element-copy-out-has-astray
-element-copy-out-has-astray c = search needs
+element-copy-out-leads-nowhere : tie.Need-element-copy-out-leads-nowhere
+element-copy-out-leads-nowhere c = search needs
 
-has-astray-requires : tie.Need-has-astray-requires
-has-astray-requires c κs = routes-end (c .before .before .before .before .before .before .before .pre)
+leads-nowhere-requires : tie.Need-leads-nowhere-requires
+leads-nowhere-requires c κs = routes-end (c .before .before .before .before .before .before .before .pre)
 
 returns-4 : tie.Need-returns-4
 unfolding _and_ _or_
-returns-4 c = simp (breaks-9-at (c .before .before .before .before .before .before .before .before .pre), ← c .before .before .before .before .before .before .before .node-of .ensures, eq-eqb _ _ (c .before .before .before .before .before .if1 .left), ne-eqb _ _ (c .before .before .before .before .if2 .left), ← c .before .before .before .routes-exhausted .ensures, c .before .before .if3 .left, ← c .has-astray .ensures)
+returns-4 c = simp (breaks-9-at (c .before .before .before .before .before .before .before .before .pre), ← c .before .before .before .before .before .before .before .node-of .ensures, eq-eqb _ _ (c .before .before .before .before .before .if1 .left), ne-eqb _ _ (c .before .before .before .before .if2 .left), ← c .before .before .before .routes-exhausted .ensures, c .before .before .if3 .left, ← c .leads-nowhere .ensures)
 
 pub breaks-9-spec : {M : Type 1} → statement M
 breaks-9-spec =
@@ -42,6 +42,6 @@ breaks-9-spec =
     returns-2
     routes-exhausted-requires
     returns-3
-    element-copy-out-has-astray
-    has-astray-requires
+    element-copy-out-leads-nowhere
+    leads-nowhere-requires
     returns-4)

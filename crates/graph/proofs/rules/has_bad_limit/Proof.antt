@@ -9,6 +9,7 @@ use Rattle.graph.specs.RulesLaws.{some-in, bad-row, seek-from}
 use Rattle.graph.proofs.rules.has_bad_limit.Statement.{statement}
 use Rattle.graph.proofs.rules.has_bad_limit.Tie as tie
 
+-- what is left to find from row i on is the whole answer
 abbrev Inv-loop : tie.InvT-loop
 Inv-loop w m most from to i₀ i = (from ≤ i) × Seek (bad-row w m most) (λ _ _. true) false (λ j. j) to i (some-in from to (bad-row w m most))
 

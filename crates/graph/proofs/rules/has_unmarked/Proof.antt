@@ -8,6 +8,7 @@ use Rattle.graph.specs.RulesLaws.{some-in, unmarked, seek-from}
 use Rattle.graph.proofs.rules.has_unmarked.Statement.{statement}
 use Rattle.graph.proofs.rules.has_unmarked.Tie as tie
 
+-- what is left to find from row i on is the whole answer
 abbrev Inv-loop : tie.InvT-loop
 Inv-loop w column from to m i₀ i = (from ≤ i) × Seek (unmarked w column m) (λ _ _. true) false (λ j. j) to i (some-in from to (unmarked w column m))
 

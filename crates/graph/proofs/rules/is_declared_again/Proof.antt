@@ -1,14 +1,16 @@
+use Rattle.workflow.specs.Layout as layout
+use Rattle.workflow.specs.View.{cell}
 use Prim.Native.Nat.{_-_}
 use native.Mathlib.Omega.{arith}
 use borrow.Author.Needs.{needs}
 use Rattle.laws.specs.Rows.{span}
 use Rattle.graph.specs.RulesLaws.{again, reserved-marks, Again, again-start, again-hit, again-miss, again-end}
-use Rattle.graph.specs.SearchLaws.{column}
 use Rattle.graph.proofs.rules.is_declared_again.Statement.{statement}
 use Rattle.graph.proofs.rules.is_declared_again.Tie as tie
 
+-- with the marks so far, what is left to find from row i on is the whole answer
 abbrev Inv-loop : tie.InvT-loop
-Inv-loop w two from to m₀ i₀ m i = Again w 3913 from to (again (reserved-marks two) (span (column w 3913) from to)) m i
+Inv-loop w two from to m₀ i₀ m i = Again w layout.declared-outcome from to (again (reserved-marks two) (span (cell w layout.declared-outcome) from to)) m i
 
 abbrev μ-loop : tie.MeasureT-loop
 μ-loop w two from to m₀ i₀ m i = to - i

@@ -1,19 +1,20 @@
+use Rattle.workflow.specs.Layout as layout
 use mathlib.Core.Path.{refl}
 use Prim.Native.Nat.{_-_}
 use native.Mathlib.Omega.{arith}
-use lib.ListN.{getD}
 use borrow.Author.Needs.{needs}
 use Rattle.laws.specs.First.{seek-hit, seek-miss, seek-end}
 use Rattle.workflow.specs.declared.Found.the-variants.{At, Nothing}
-use Rattle.workflow.specs.View.{workflow}
+use Rattle.workflow.specs.View.{workflow, at}
 use Rattle.graph.specs.SearchLaws.{parts-of}
 use Rattle.graph.specs.RulesLaws.{routes-rise, the-group, breaks, Walking, walk-start}
 use Rattle.graph.specs.Lowest.{lowest}
 use Rattle.graph.proofs.rules.lowest_breaking.Statement.{statement}
 use Rattle.graph.proofs.rules.lowest_breaking.Tie as tie
 
+-- the routes of node i start at `from`, and the lowest from i on is the whole answer
 abbrev Inv-loop : tie.InvT-loop
-Inv-loop w rule n k from₀ i₀ from i = Walking (breaks (workflow w) rule) (λ _ j. At j) Nothing w 457 k (getD w 4 0) from i (lowest (getD w 4 0) (breaks (workflow w) rule))
+Inv-loop w rule n k from₀ i₀ from i = Walking (breaks (workflow w) rule) (λ _ j. At j) Nothing w layout.route-node k (at w layout.node-count) from i (lowest (at w layout.node-count) (breaks (workflow w) rule))
 
 abbrev μ-loop : tie.MeasureT-loop
 μ-loop w rule n k from₀ i₀ from i = n - i

@@ -5,6 +5,7 @@ use Rattle.graph.specs.RulesLaws.{Marking, marking-start, marking-next, 
 use Rattle.graph.proofs.rules.marks.Statement.{statement}
 use Rattle.graph.proofs.rules.marks.Tie as tie
 
+-- the marks so far with the outcomes from row i on are the whole answer
 abbrev Inv-loop : tie.InvT-loop
 Inv-loop w column from to m₀ i₀ m i = Marking w column from to m i
 

@@ -6,12 +6,12 @@ use Rattle.graph.proofs.rules.may_route_exhausted.Tie as tie
 node-of-requires : tie.Need-node-of-requires
 node-of-requires c κs = search needs
 
-element-copy-out-result : tie.Need-element-copy-out-result
-element-copy-out-result c = search needs
+is-0-2-requires : tie.Need-is-0-2-requires
+is-0-2-requires c κs = search needs
 
 returns : tie.Need-returns
 unfolding _and_
-returns c = simp (← c .before .before .node-of .ensures)
+returns c = simp (← c .before .is-0-2 .ensures, ← c .before .before .node-of .ensures)
 
 pub may-route-exhausted-spec : {M : Type 1} → statement M
-may-route-exhausted-spec = tie.close (tie.spec node-of-requires element-copy-out-result returns)
+may-route-exhausted-spec = tie.close (tie.spec node-of-requires is-0-2-requires returns)

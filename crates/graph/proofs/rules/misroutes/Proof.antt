@@ -1,7 +1,7 @@
 use mathlib.Core.Path.{_∙_}
 use borrow.Author.Needs.{needs}
 use Rattle.laws.specs.Bool.{_or_}
-use Rattle.graph.specs.RulesLaws.{actions-rise, the-group, misroutes, routes-end, astray-in}
+use Rattle.graph.specs.RulesLaws.{actions-rise, the-group, misroutes, routes-end, nowhere-in}
 use Rattle.graph.specs.SearchLaws.{below-before, rising-halved}
 use Rattle.graph.proofs.rules.misroutes.Statement.{statement}
 use Rattle.graph.proofs.rules.misroutes.Tie as tie
@@ -32,15 +32,15 @@ returns-2 : tie.Need-returns-2
 unfolding misroutes _or_
 returns-2 c = simp (← c .before .before .before .has-unrouted .ensures, c .before .before .if1 .left, ← c .before .has-extra .ensures, c .if2 .taken)
 
-element-copy-out-has-astray : tie.Need-element-copy-out-has-astray
-element-copy-out-has-astray c = search needs
+element-copy-out-leads-nowhere : tie.Need-element-copy-out-leads-nowhere
+element-copy-out-leads-nowhere c = search needs
 
-has-astray-requires : tie.Need-has-astray-requires
-has-astray-requires c κs = routes-end (c .before .before .before .before .before .before .before .before .before .pre)
+leads-nowhere-requires : tie.Need-leads-nowhere-requires
+leads-nowhere-requires c κs = routes-end (c .before .before .before .before .before .before .before .before .before .pre)
 
 returns-3 : tie.Need-returns-3
 unfolding misroutes _or_
-returns-3 c = simp (← c .before .before .before .before .before .has-unrouted .ensures, c .before .before .before .before .if1 .left, ← c .before .before .before .has-extra .ensures, c .before .before .if2 .left, astray-in (c .before .before .before .before .before .before .before .before .before .before .pre), ← c .has-astray .ensures)
+returns-3 c = simp (← c .before .before .before .before .before .has-unrouted .ensures, c .before .before .before .before .if1 .left, ← c .before .before .before .has-extra .ensures, c .before .before .if2 .left, nowhere-in (c .before .before .before .before .before .before .before .before .before .before .pre), ← c .leads-nowhere .ensures)
 
 pub misroutes-spec : {M : Type 1} → statement M
 misroutes-spec =
@@ -54,6 +54,6 @@ misroutes-spec =
     returns
     has-extra-requires
     returns-2
-    element-copy-out-has-astray
-    has-astray-requires
+    element-copy-out-leads-nowhere
+    leads-nowhere-requires
     returns-3)

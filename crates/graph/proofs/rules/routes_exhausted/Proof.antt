@@ -8,8 +8,8 @@ use Rattle.graph.proofs.rules.routes_exhausted.Tie as tie
 marks-requires : tie.Need-marks-requires
 marks-requires c κs = routes-outcomes (c .pre)
 
-element-copy-out-result : tie.Need-element-copy-out-result
-element-copy-out-result c = search needs
+is-0-2-requires : tie.Need-is-0-2-requires
+is-0-2-requires c κs = search needs
 
 array-read-result : tie.Need-array-read-result
 array-read-result c = search needs
@@ -19,14 +19,14 @@ may-route-exhausted-requires c κs = search needs
 
 returns : tie.Need-returns
 unfolding routes-exhausted _and_
-returns c = simp (← c .may-route-exhausted .ensures, ← routed-marked (c .before .before .before .pre) 3 (omega arith), ← c .before .before .marks .ensures)
+returns c = simp (c .before .is-0-2 .ensures, ← c .may-route-exhausted .ensures, ← routed-marked (c .before .before .before .pre) 3 (omega arith), ← c .before .before .marks .ensures)
 
 pub routes-exhausted-spec : {M : Type 1} → statement M
 routes-exhausted-spec =
     tie.close
     (tie.spec
     marks-requires
-    element-copy-out-result
+    is-0-2-requires
     array-read-result
     may-route-exhausted-requires
     returns)

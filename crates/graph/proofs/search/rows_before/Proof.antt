@@ -1,13 +1,15 @@
+use Rattle.workflow.specs.View.{cell}
 use Prim.Native.Nat.{_-_}
 use native.Mathlib.Omega.{arith}
 use borrow.Author.Needs.{needs}
 use Rattle.graph.specs.Form.{ascends}
-use Rattle.graph.specs.SearchLaws.{column, rows-before, Halving, halving-start, halving-up, halving-down, halving-end}
+use Rattle.graph.specs.SearchLaws.{rows-before, Halving, halving-start, halving-up, halving-down, halving-end}
 use Rattle.graph.proofs.search.rows_before.Statement.{statement}
 use Rattle.graph.proofs.search.rows_before.Tie as tie
 
+-- all rows below low stand before the pair, and the row at high does not
 abbrev Inv-loop : tie.InvT-loop
-Inv-loop w major minor count x y low₀ high₀ low high = Halving (λ j. ascends (column w major j) (column w minor j) x y) count low high
+Inv-loop w major minor count x y low₀ high₀ low high = Halving (λ j. ascends (cell w major j) (cell w minor j) x y) count low high
 
 abbrev μ-loop : tie.MeasureT-loop
 μ-loop w major minor count x y low₀ high₀ low high = high - low

@@ -5,6 +5,7 @@ use Rattle.graph.specs.SearchLaws.{Passing, passing-start, passing-next,
 use Rattle.graph.proofs.search.rows_end.Statement.{statement}
 use Rattle.graph.proofs.search.rows_end.Tie as tie
 
+-- all rows below i have the key or a lower one
 abbrev Inv-loop : tie.InvT-loop
 Inv-loop w column from count key i₀ i = Passing w column count from key i
 

@@ -3,144 +3,46 @@ use borrow.Author.Needs.{needs}
 use Rattle.host.proofs.read.event.Statement.{statement}
 use Rattle.host.proofs.read.event.Tie as tie
 
-element-copy-out-t4 : tie.Need-element-copy-out-t4
-element-copy-out-t4 c = search needs
-
-element-copy-out-t7 : tie.Need-element-copy-out-t7
-element-copy-out-t7 c = search needs
-
-element-copy-out-t10 : tie.Need-element-copy-out-t10
-element-copy-out-t10 c = search needs
-
-element-copy-out-narrow : tie.Need-element-copy-out-narrow
-element-copy-out-narrow c = search needs
-
-narrow-requires : tie.Need-narrow-requires
-narrow-requires c κs = search needs
-
-element-copy-out-narrow-2 : tie.Need-element-copy-out-narrow-2
-element-copy-out-narrow-2 c = search needs
-
-narrow-requires-2 : tie.Need-narrow-requires-2
-narrow-requires-2 c κs = search needs
-
-element-copy-out-narrow-3 : tie.Need-element-copy-out-narrow-3
-element-copy-out-narrow-3 c = search needs
-
-narrow-requires-3 : tie.Need-narrow-requires-3
-narrow-requires-3 c κs = search needs
-
-element-copy-out-narrow-4 : tie.Need-element-copy-out-narrow-4
-element-copy-out-narrow-4 c = search needs
-
-narrow-requires-4 : tie.Need-narrow-requires-4
-narrow-requires-4 c κs = search needs
-
-element-copy-out-narrow-5 : tie.Need-element-copy-out-narrow-5
-element-copy-out-narrow-5 c = search needs
-
-narrow-requires-5 : tie.Need-narrow-requires-5
-narrow-requires-5 c κs = search needs
-
-element-copy-out-narrow-6 : tie.Need-element-copy-out-narrow-6
-element-copy-out-narrow-6 c = search needs
-
-narrow-requires-6 : tie.Need-narrow-requires-6
-narrow-requires-6 c κs = search needs
-
-element-copy-out-narrow-7 : tie.Need-element-copy-out-narrow-7
-element-copy-out-narrow-7 c = search needs
-
-narrow-requires-7 : tie.Need-narrow-requires-7
-narrow-requires-7 c κs = search needs
-
-element-copy-out-narrow-8 : tie.Need-element-copy-out-narrow-8
-element-copy-out-narrow-8 c = search needs
-
-narrow-requires-8 : tie.Need-narrow-requires-8
-narrow-requires-8 c κs = search needs
-
-element-copy-out-narrow-9 : tie.Need-element-copy-out-narrow-9
-element-copy-out-narrow-9 c = search needs
-
-narrow-requires-9 : tie.Need-narrow-requires-9
-narrow-requires-9 c κs = search needs
-
-element-copy-out-narrow-10 : tie.Need-element-copy-out-narrow-10
-element-copy-out-narrow-10 c = search needs
-
-narrow-requires-10 : tie.Need-narrow-requires-10
-narrow-requires-10 c κs = search needs
-
-element-copy-out-narrow-11 : tie.Need-element-copy-out-narrow-11
-element-copy-out-narrow-11 c = search needs
-
-narrow-requires-11 : tie.Need-narrow-requires-11
-narrow-requires-11 c κs = search needs
-
-element-copy-out-narrow-12 : tie.Need-element-copy-out-narrow-12
-element-copy-out-narrow-12 c = search needs
-
-narrow-requires-12 : tie.Need-narrow-requires-12
-narrow-requires-12 c κs = search needs
-
-element-copy-out-narrow-13 : tie.Need-element-copy-out-narrow-13
-element-copy-out-narrow-13 c = search needs
-
-narrow-requires-13 : tie.Need-narrow-requires-13
-narrow-requires-13 c κs = search needs
-
-element-copy-out-narrow-14 : tie.Need-element-copy-out-narrow-14
-element-copy-out-narrow-14 c = search needs
-
-narrow-requires-14 : tie.Need-narrow-requires-14
-narrow-requires-14 c κs = search needs
-
-element-copy-out-t69 : tie.Need-element-copy-out-t69
-element-copy-out-t69 c = search needs
-
-element-copy-out-t73 : tie.Need-element-copy-out-t73
-element-copy-out-t73 c = search needs
-
 returns : tie.Need-returns
 unfolding event-of
-returns c = simp (← c .before .before .before .before .before .before .before .before .before .before .before .before .before .before .before .before .before .before .before .before .before .before .before .before .before .before .before .before .narrow .ensures, ← c .before .before .before .before .before .before .before .before .before .before .before .before .before .before .before .before .before .before .before .before .before .before .before .before .before .before .narrow2 .ensures, ← c .before .before .before .before .before .before .before .before .before .before .before .before .before .before .before .before .before .before .before .before .before .before .before .before .narrow3 .ensures, ← c .before .before .before .before .before .before .before .before .before .before .before .before .before .before .before .before .before .before .before .before .before .before .narrow4 .ensures, ← c .before .before .before .before .before .before .before .before .before .before .before .before .before .before .before .before .before .before .before .before .narrow5 .ensures, ← c .before .before .before .before .before .before .before .before .before .before .before .before .before .before .before .before .before .before .narrow6 .ensures, ← c .before .before .before .before .before .before .before .before .before .before .before .before .before .before .before .before .narrow7 .ensures, ← c .before .before .before .before .before .before .before .before .before .before .before .before .before .before .narrow8 .ensures, ← c .before .before .before .before .before .before .before .before .before .before .before .before .narrow9 .ensures, ← c .before .before .before .before .before .before .before .before .before .before .narrow10 .ensures, ← c .before .before .before .before .before .before .before .before .narrow11 .ensures, ← c .before .before .before .before .before .before .narrow12 .ensures, ← c .before .before .before .before .narrow13 .ensures, ← c .before .before .narrow14 .ensures)
+returns c =
+    let c2 = c .before .before in
+    let c4 = c2 .before .before in
+    let c6 = c4 .before .before in
+    let c8 = c6 .before .before in
+    let c10 = c8 .before .before in
+    let c12 = c10 .before .before in
+    let c14 = c12 .before .before in
+    let c16 = c14 .before .before in
+    let c18 = c16 .before .before in
+    let c20 = c18 .before .before in
+    let c22 = c20 .before .before in
+    let c24 = c22 .before .before in
+    let c26 = c24 .before .before in
+    let c28 = c26 .before .before in
+    simp (← c28 .number-at .ensures, ← c26 .number-at2 .ensures, ← c24 .number-at3 .ensures, ← c22 .number-at4 .ensures, ← c20 .number-at5 .ensures, ← c18 .number-at6 .ensures, ← c16 .number-at7 .ensures, ← c14 .number-at8 .ensures, ← c12 .number-at9 .ensures, ← c10 .number-at10 .ensures, ← c8 .number-at11 .ensures, ← c6 .number-at12 .ensures, ← c4 .number-at13 .ensures, ← c2 .number-at14 .ensures)
 
 pub event-spec : {M : Type 1} → statement M
 event-spec =
     tie.close
     (tie.spec
-    element-copy-out-t4
-    element-copy-out-t7
-    element-copy-out-t10
-    element-copy-out-narrow
-    narrow-requires
-    element-copy-out-narrow-2
-    narrow-requires-2
-    element-copy-out-narrow-3
-    narrow-requires-3
-    element-copy-out-narrow-4
-    narrow-requires-4
-    element-copy-out-narrow-5
-    narrow-requires-5
-    element-copy-out-narrow-6
-    narrow-requires-6
-    element-copy-out-narrow-7
-    narrow-requires-7
-    element-copy-out-narrow-8
-    narrow-requires-8
-    element-copy-out-narrow-9
-    narrow-requires-9
-    element-copy-out-narrow-10
-    narrow-requires-10
-    element-copy-out-narrow-11
-    narrow-requires-11
-    element-copy-out-narrow-12
-    narrow-requires-12
-    element-copy-out-narrow-13
-    narrow-requires-13
-    element-copy-out-narrow-14
-    narrow-requires-14
-    element-copy-out-t69
-    element-copy-out-t73
+    (λ c. search needs)
+    (λ c. search needs)
+    (λ c. search needs)
+    (λ c κs. search needs)
+    (λ c κs. search needs)
+    (λ c κs. search needs)
+    (λ c κs. search needs)
+    (λ c κs. search needs)
+    (λ c κs. search needs)
+    (λ c κs. search needs)
+    (λ c κs. search needs)
+    (λ c κs. search needs)
+    (λ c κs. search needs)
+    (λ c κs. search needs)
+    (λ c κs. search needs)
+    (λ c κs. search needs)
+    (λ c κs. search needs)
+    (λ c. search needs)
+    (λ c. search needs)
     returns)

@@ -1,5 +1,5 @@
-use Rattle.host.specs.Read.{kept-of}
 use Rattle.laws.specs.Bool.{if_then_else_}
+use Rattle.host.specs.Read.{kept-of}
 use borrow.Author.Tests.{eq-eqb, ne-eqb}
 use borrow.Author.Needs.{needs}
 use Rattle.host.proofs.read.kept.Statement.{statement}
@@ -9,12 +9,14 @@ returns : tie.Need-returns
 unfolding kept-of if_then_else_
 returns c = simp (eq-eqb _ _ (c .if1 .taken))
 
-error-requires : tie.Need-error-requires
-error-requires c κs = search needs
-
 returns-2 : tie.Need-returns-2
 unfolding kept-of if_then_else_
 returns-2 c = simp (ne-eqb _ _ (c .before .if1 .left), ← c .error .ensures)
 
 pub kept-spec : {M : Type 1} → statement M
-kept-spec = tie.close (tie.spec returns error-requires returns-2)
+kept-spec =
+    tie.close
+    (tie.spec
+    returns
+    (λ c κs. search needs)
+    returns-2)

@@ -1,39 +1,20 @@
 use borrow.Author.Needs.{needs}
 use Prim.Native.Nat.{_-_}
 use Rattle.laws.specs.Splice.{Filled, fill-start, fill-next, fill-end}
+use Rattle.host.specs.Layout.{nodes}
 use Rattle.host.specs.Read.{result-of}
 use Rattle.host.proofs.read.results.Statement.{statement}
 use Rattle.host.proofs.read.results.Tie as tie
 
+-- the slots before i are read
 abbrev Inv-loop : tie.InvT-loop
-Inv-loop xs a₀ i₀ a i = Filled (result-of xs) 64 i a₀ a
+Inv-loop xs a₀ i₀ a i = Filled (result-of xs) nodes i a₀ a
 
 abbrev μ-loop : tie.MeasureT-loop
-μ-loop xs a₀ i₀ a i = 64 - i
-
-loop-holds : tie.Need-loop-holds Inv-loop μ-loop
-loop-holds c = fill-start (search needs)
-
-result-requires : tie.Need-result-requires Inv-loop μ-loop
-result-requires c κs = search needs
-
-mul-a : tie.Need-mul-a Inv-loop μ-loop
-mul-a c = search needs
-
-array-set-from-a : tie.Need-array-set-from-a Inv-loop μ-loop
-array-set-from-a c = search needs
-
-add-i : tie.Need-add-i Inv-loop μ-loop
-add-i c = search needs
-
-loop-less : tie.Need-loop-less Inv-loop μ-loop
-loop-less c = search needs
+μ-loop xs a₀ i₀ a i = nodes - i
 
 loop-again : tie.Need-loop-again Inv-loop μ-loop
 loop-again c = fill-next (c .before .before .loop .inv) (c .result .ensures) (c .before .loop-test .taken)
-
-returns : tie.Need-returns Inv-loop μ-loop
-returns c = fill-end (c .before .loop .inv) (c .loop-test .left)
 
 pub results-spec : {M : Type 1} → statement M
 results-spec =
@@ -41,11 +22,11 @@ results-spec =
     (tie.spec
     Inv-loop
     μ-loop
-    loop-holds
-    result-requires
-    mul-a
-    array-set-from-a
-    add-i
-    loop-less
+    (λ c. fill-start (search needs))
+    (λ c κs. search needs)
+    (λ c. search needs)
+    (λ c. search needs)
+    (λ c. search needs)
+    (λ c. search needs)
     loop-again
-    returns)
+    (λ c. fill-end (c .before .loop .inv) (c .loop-test .left)))

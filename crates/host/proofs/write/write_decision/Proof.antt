@@ -8,39 +8,6 @@ use borrow.Author.Needs.{needs}
 use Rattle.host.proofs.write.write_decision.Statement.{statement}
 use Rattle.host.proofs.write.write_decision.Tie as tie
 
-numbers-requires : tie.Need-numbers-requires
-numbers-requires c κs = search needs
-
-cast-t10 : tie.Need-cast-t10
-cast-t10 c = search needs
-
-cast-t11 : tie.Need-cast-t11
-cast-t11 c = search needs
-
-slice-aggregate-write : tie.Need-slice-aggregate-write
-slice-aggregate-write c = search needs
-
-write-requires : tie.Need-write-requires
-write-requires c κs = search needs
-
-slice-aggregate-write-2 : tie.Need-slice-aggregate-write-2
-slice-aggregate-write-2 c = search needs
-
-write-requires-2 : tie.Need-write-requires-2
-write-requires-2 c κs = search needs
-
-write-notes-requires : tie.Need-write-notes-requires
-write-notes-requires c κs = search needs
-
-write-endings-requires : tie.Need-write-endings-requires
-write-endings-requires c κs = search needs
-
-write-state-requires : tie.Need-write-state-requires
-write-state-requires c κs = search needs
-
-same-length : tie.Need-same-length
-same-length c = search needs
-
 notes : (c : tie.Start) → length (c .args .d .notes) ≡ 65
 notes c = search (needs, length-field)
 
@@ -53,26 +20,33 @@ whole c = record { signals = search (needs, length-field); visits = search (need
 returns : tie.Need-returns
 unfolding decision-numbers
 returns c =
-    let w1 = wrote-first (c .before .before .before .before .before .before .before .before .before .before .before .before .before .before .before .before .before .before .before .before .before .before .before .before .before .before .before .numbers .ensures) (length-answer _) (c .before .before .before .before .before .before .before .before .before .before .before .before .before .before .before .before .before .before .before .write .ensures) in
-    let w2 = wrote-next w1 (refl) (refl) (omega arith) (omega (arith, c .before .before .before .before .before .before .before .before .before .before .before .before .before .before .before .before .before .before .before .before .before .before .before .before .before .before .before .before .before .pre)) (c .before .before .before .before .before .before .before .before .before .before .before .before .before .before .write2 .ensures) in
-    let w3 = wrote-next w2 (refl) (flat-size note-numbers 65 length-note (c .before .before .before .before .before .before .before .before .before .before .before .before .before .before .before .before .before .before .before .before .before .before .before .before .before .before .before .before .before .args .d .notes) (notes (c .before .before .before .before .before .before .before .before .before .before .before .before .before .before .before .before .before .before .before .before .before .before .before .before .before .before .before .before .before))) (omega arith) (omega (arith, c .before .before .before .before .before .before .before .before .before .before .before .before .before .before .before .before .before .before .before .before .before .before .before .before .before .before .before .before .before .pre)) (c .before .before .before .before .before .before .before .before .before .before .write-notes .ensures) in
-    let w4 = wrote-next w3 (refl) (flat-size ending-numbers 65 length-ending (c .before .before .before .before .before .before .before .before .before .before .before .before .before .before .before .before .before .before .before .before .before .before .before .before .before .before .before .before .before .args .d .endings) (endings (c .before .before .before .before .before .before .before .before .before .before .before .before .before .before .before .before .before .before .before .before .before .before .before .before .before .before .before .before .before))) (omega arith) (omega (arith, c .before .before .before .before .before .before .before .before .before .before .before .before .before .before .before .before .before .before .before .before .before .before .before .before .before .before .before .before .before .pre)) (c .before .before .before .before .before .before .write-endings .ensures) in
-    let w5 = wrote-next w4 (refl) (length-state _ _ (whole (c .before .before .before .before .before .before .before .before .before .before .before .before .before .before .before .before .before .before .before .before .before .before .before .before .before .before .before .before .before))) (omega arith) (omega (arith, c .before .before .before .before .before .before .before .before .before .before .before .before .before .before .before .before .before .before .before .before .before .before .before .before .before .before .before .before .before .pre)) (c .before .before .write-state .ensures) in
+    let c2 = c .before .before in
+    let c6 = c2 .before .before .before .before in
+    let c10 = c6 .before .before .before .before in
+    let c14 = c10 .before .before .before .before in
+    let c19 = c14 .before .before .before .before .before in
+    let c27 = c19 .before .before .before .before .before .before .before .before in
+    let c29 = c27 .before .before in
+    let w1 = wrote-first (c27 .numbers .ensures) (length-answer _) (c19 .write .ensures) in
+    let w2 = wrote-next w1 refl refl (omega arith) (omega (arith, c29 .pre)) (c14 .write2 .ensures) in
+    let w3 = wrote-next w2 refl (flat-size note-numbers 65 length-note (c29 .args .d .notes) (notes c29)) (omega arith) (omega (arith, c29 .pre)) (c10 .write-notes .ensures) in
+    let w4 = wrote-next w3 refl (flat-size ending-numbers 65 length-ending (c29 .args .d .endings) (endings c29)) (omega arith) (omega (arith, c29 .pre)) (c6 .write-endings .ensures) in
+    let w5 = wrote-next w4 refl (length-state _ _ (whole c29)) (omega arith) (omega (arith, c29 .pre)) (c2 .write-state .ensures) in
     w5 .so-far
 
 pub write-decision-spec : {M : Type 1} → statement M
 write-decision-spec =
     tie.close
     (tie.spec
-    numbers-requires
-    cast-t10
-    cast-t11
-    slice-aggregate-write
-    write-requires
-    slice-aggregate-write-2
-    write-requires-2
-    write-notes-requires
-    write-endings-requires
-    write-state-requires
-    same-length
+    (λ c κs. search needs)
+    (λ c. search needs)
+    (λ c. search needs)
+    (λ c. search needs)
+    (λ c κs. search needs)
+    (λ c. search needs)
+    (λ c κs. search needs)
+    (λ c κs. search needs)
+    (λ c κs. search needs)
+    (λ c κs. search needs)
+    (λ c. search needs)
     returns)

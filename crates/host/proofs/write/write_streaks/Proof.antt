@@ -2,59 +2,25 @@ use borrow.Author.Needs.{needs}
 use native.Mathlib.Omega.{arith}
 use Prim.Native.Nat.{_-_}
 use Rattle.laws.specs.Splice.{Written, write-start, write-next, write-end}
+use Rattle.host.specs.Layout.{nodes, streak-width}
 use Rattle.host.specs.Write.{streak-numbers}
 use Rattle.host.specs.WriteLaws.{length-streak}
 use Rattle.host.proofs.write.write_streaks.Statement.{statement}
 use Rattle.host.proofs.write.write_streaks.Tie as tie
 
+-- the numbers of the rows before i are written
 abbrev Inv-loop : tie.InvT-loop
-Inv-loop out₀ at xs i₀ out i = Written streak-numbers 2 xs at i out₀ out
+Inv-loop out₀ at xs i₀ out i = Written streak-numbers streak-width xs at i out₀ out
 
 abbrev μ-loop : tie.MeasureT-loop
-μ-loop out₀ at xs i₀ out i = 64 - i
-
-loop-holds : tie.Need-loop-holds Inv-loop μ-loop
-loop-holds c = write-start length-streak
-
-mul-x : tie.Need-mul-x Inv-loop μ-loop
-mul-x c = search needs
-
-array-copy-out-x : tie.Need-array-copy-out-x Inv-loop μ-loop
-array-copy-out-x c = search needs
-
-cast-t13 : tie.Need-cast-t13 Inv-loop μ-loop
-cast-t13 c = search needs
-
-cast-t14 : tie.Need-cast-t14 Inv-loop μ-loop
-cast-t14 c = search needs
-
-mul-write : tie.Need-mul-write Inv-loop μ-loop
-mul-write c = search needs
-
-add-write : tie.Need-add-write Inv-loop μ-loop
-add-write c = search needs
-
-slice-aggregate-write : tie.Need-slice-aggregate-write Inv-loop μ-loop
-slice-aggregate-write c = search needs
-
-write-requires : tie.Need-write-requires Inv-loop μ-loop
-write-requires c κs = search needs
-
-add-i : tie.Need-add-i Inv-loop μ-loop
-add-i c = search needs
-
-loop-less : tie.Need-loop-less Inv-loop μ-loop
-loop-less c = search needs
+μ-loop out₀ at xs i₀ out i = nodes - i
 
 loop-again : tie.Need-loop-again Inv-loop μ-loop
 unfolding streak-numbers
-loop-again c = write-next (c .before .before .before .before .before .before .before .before .before .loop .inv) _ (omega arith) (search needs) (omega arith) (c .before .before .write .ensures)
-
-same-length : tie.Need-same-length Inv-loop μ-loop
-same-length c = c .before .loop .inv .long
-
-returns : tie.Need-returns Inv-loop μ-loop
-returns c = write-end (c .before .loop .inv) (search needs)
+loop-again c =
+    let c2 = c .before .before in
+    let c9 = c2 .before .before .before .before .before .before .before in
+    write-next (c9 .loop .inv) _ (omega arith) (search needs) (omega arith) (c2 .write .ensures)
 
 pub write-streaks-spec : {M : Type 1} → statement M
 write-streaks-spec =
@@ -62,17 +28,17 @@ write-streaks-spec =
     (tie.spec
     Inv-loop
     μ-loop
-    loop-holds
-    mul-x
-    array-copy-out-x
-    cast-t13
-    cast-t14
-    mul-write
-    add-write
-    slice-aggregate-write
-    write-requires
-    add-i
-    loop-less
+    (λ c. write-start length-streak)
+    (λ c. search needs)
+    (λ c. search needs)
+    (λ c. search needs)
+    (λ c. search needs)
+    (λ c. search needs)
+    (λ c. search needs)
+    (λ c. search needs)
+    (λ c κs. search needs)
+    (λ c. search needs)
+    (λ c. search needs)
     loop-again
-    same-length
-    returns)
+    (λ c. c .before .loop .inv .long)
+    (λ c. write-end (c .before .loop .inv) (search needs)))

@@ -2,10 +2,6 @@ use Rattle.kernel.specs.DriveLaws.{decide}
 use borrow.Author.Needs.{needs}
 use Rattle.kernel.proofs.drive.decide.Statement.{statement}
 use Rattle.kernel.proofs.drive.decide.Tie as tie
-use Rattle.kernel.proofs.drive.decide.Reads as reads
-use Rattle.kernel.proofs.drive.decide.Lts as lts
-use Rattle.kernel.proofs.drive.refusal.Reads as refusal-reads
-use Rattle.kernel.proofs.drive.want.Reads as want-reads
 
 enum-known-answer : tie.Need-enum-known-answer
 enum-known-answer c = search needs

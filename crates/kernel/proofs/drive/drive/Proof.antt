@@ -3,10 +3,6 @@ use Rattle.kernel.specs.DriveLaws.{begins, end-is}
 use borrow.Author.Needs.{needs}
 use Rattle.kernel.proofs.drive.drive.Statement.{statement}
 use Rattle.kernel.proofs.drive.drive.Tie as tie
-use Rattle.kernel.proofs.drive.drive.Reads as reads
-use Rattle.kernel.proofs.drive.drive.Lts as lts
-use Rattle.kernel.proofs.drive.run.Reads as run-reads
-use Rattle.model.proofs.State.apply.Reads as apply-reads
 
 apply-requires : tie.Need-apply-requires
 apply-requires c κs = search needs

@@ -7,21 +7,13 @@ use Rattle.workflow.specs.View.{workflow}
 use Rattle.kernel.specs.DriveLaws.{Driving, Listed, driving-first, adding-note, adding-ending, added-room, added-one, added-none, listed, driving-next, driving-over, driving-ends}
 use Rattle.kernel.proofs.drive.run.Statement.{statement}
 use Rattle.kernel.proofs.drive.run.Tie as tie
-use Rattle.kernel.proofs.drive.run.Reads as reads
-use Rattle.kernel.proofs.drive.run.Lts as lts
-use Rattle.kernel.proofs.drive.answer_of.Reads as answer-of-reads
-use Rattle.kernel.proofs.drive.decide.Reads as decide-reads
-use Rattle.kernel.proofs.drive.operations_of.Reads as operations-of-reads
-use Rattle.kernel.proofs.drive.place_of.Reads as place-of-reads
-use Rattle.kernel.proofs.drive.refusal.Reads as refusal-reads
-use Rattle.kernel.proofs.drive.turn.Reads as turn-reads
-use Rattle.model.proofs.moves.no_ending.Reads as no-ending-reads
-use Rattle.model.proofs.moves.no_note.Reads as no-note-reads
 
+-- Driving on from the move at hand, with what is listed and counted so far, ends where the whole drive ends.
 abbrev Inv-loop : tie.InvT-loop
 Inv-loop w v₀ limits event mappings notes₀ endings₀ note-count₀ ending-count₀ operations₀ microsteps₀ v notes endings note-count ending-count operations microsteps =
     Driving (workflow w) limits event mappings v₀ v notes endings note-count ending-count operations microsteps
 
+-- The moves that are left of 131.
 abbrev μ-loop : tie.MeasureT-loop
 μ-loop w v₀ limits event mappings notes₀ endings₀ note-count₀ ending-count₀ operations₀ microsteps₀ v notes endings note-count ending-count operations microsteps = 131 - microsteps
 
@@ -92,14 +84,14 @@ add-operations : tie.Need-add-operations Inv-loop μ-loop
 add-operations c =
     let d = c .before .before .before .before .before .before .before .loop .inv in omega (arith, c .operations-of .ensures .1, d .few, d .going .bounds .steps)
 
-place-of-requires : tie.Need-place-of-requires Inv-loop μ-loop
-place-of-requires c κs = search needs
+upcoming-requires : tie.Need-upcoming-requires Inv-loop μ-loop
+upcoming-requires c κs = search needs
 
-enum-known-found : tie.Need-enum-known-found Inv-loop μ-loop
-enum-known-found c = search needs
+enum-known-follows : tie.Need-enum-known-follows Inv-loop μ-loop
+enum-known-follows c = search needs
 
-enum-told : tie.Need-enum-told Inv-loop μ-loop
-enum-told c = search needs
+enum-known-follows-2 : tie.Need-enum-known-follows-2 Inv-loop μ-loop
+enum-known-follows-2 c = search needs
 
 answer-of-requires : tie.Need-answer-of-requires Inv-loop μ-loop
 answer-of-requires c κs = search needs
@@ -109,17 +101,17 @@ decide-requires c κs = search needs
 
 returns : tie.Need-returns Inv-loop μ-loop
 returns c =
-    rw (c .decide .ensures, c .before .answer-of .ensures) (driving-ends _ _ _ _ _ (says (c .before .before .before .before .before)) (sym (c .before .before .before .before .place-of .ensures) ∙ c .before .before .enum-told .given .1))
+    rw (c .decide .ensures, c .before .answer-of .ensures) (driving-ends _ _ _ _ _ (says (c .before .before .before .before .before .before)) _ (sym (c .before .before .before .before .before .upcoming .ensures) ∙ c .before .before .before .follows .given .1))
 
 refusal-requires : tie.Need-refusal-requires Inv-loop μ-loop
 refusal-requires c κs = search needs
 
 returns-2 : tie.Need-returns-2 Inv-loop μ-loop
 returns-2 c =
-    rw (c .refusal .ensures) (driving-over _ _ _ _ _ (says (c .before .before .before .before .before .before .before)) _ (sym (c .before .before .before .before .before .before .place-of .ensures) ∙ c .before .before .before .before .found .given .1) (c .before .if3 .taken))
+    rw (c .refusal .ensures) (driving-over _ _ _ _ _ (says (c .before .before .before .before .before .before .before)) _ (sym (c .before .before .before .before .before .before .upcoming .ensures) ∙ c .before .before .before .before .follows2 .given .1) (c .before .if3 .taken))
 
-turn-requires : tie.Need-turn-requires Inv-loop μ-loop
-turn-requires c κs = search needs
+advance-requires : tie.Need-advance-requires Inv-loop μ-loop
+advance-requires c κs = search needs
 
 add-microsteps : tie.Need-add-microsteps Inv-loop μ-loop
 add-microsteps c =
@@ -131,7 +123,7 @@ loop-less c =
 
 loop-again : tie.Need-loop-again Inv-loop μ-loop
 loop-again c =
-    driving-next _ _ _ _ _ (says (c .before .before .before .before .before .before .before)) _ _ (sym (c .before .before .before .before .before .before .place-of .ensures) ∙ c .before .before .before .before .found .given .1) (c .before .if3 .left) (c .turn .ensures)
+    driving-next _ _ _ _ _ (says (c .before .before .before .before .before .before .before)) _ (sym (c .before .before .before .before .before .before .upcoming .ensures) ∙ c .before .before .before .before .follows2 .given .1) _ (c .before .if3 .left) (c .advance .ensures)
 
 pub run-spec : {M : Type 1} → statement M
 run-spec =
@@ -152,15 +144,15 @@ run-spec =
     add-ending-count
     operations-of-requires
     add-operations
-    place-of-requires
-    enum-known-found
-    enum-told
+    upcoming-requires
+    enum-known-follows
     answer-of-requires
     decide-requires
     returns
+    enum-known-follows-2
     refusal-requires
     returns-2
-    turn-requires
+    advance-requires
     add-microsteps
     loop-less
     loop-again)

@@ -3,20 +3,13 @@ use Rattle.kernel.specs.Decision.{decision-of}
 use borrow.Author.Needs.{needs}
 use Rattle.kernel.proofs.drive.want.Statement.{statement}
 use Rattle.kernel.proofs.drive.want.Tie as tie
-use Rattle.kernel.proofs.drive.want.Reads as reads
-use Rattle.kernel.proofs.drive.want.Lts as lts
-use Rattle.model.proofs.moves.no_ending.Reads as no-ending-reads
-use Rattle.model.proofs.moves.no_note.Reads as no-note-reads
 
--- src/drive.rt:274:17
 no-note-requires : tie.Need-no-note-requires
 no-note-requires c κs = search needs
 
--- src/drive.rt:275:19
 no-ending-requires : tie.Need-no-ending-requires
 no-ending-requires c κs = search needs
 
--- src/drive.rt:270:1
 returns : tie.Need-returns
 unfolding decision-of padded
 returns c = simp (← c .before .no-note .ensures, ← c .no-ending .ensures)

@@ -35,7 +35,7 @@ terminate-requires c κs = search needs
 returns-2 : tie.Need-returns-2
 returns-2 c =
     let a = c .before .before .before .before .before .before .args in
-    exceeds-visits (workflow (a .w .now)) (a .t1) (a .node) (a .come-from) (a .mappings) (c .before .before .before .before .capped .ensures) (c .before .before .before .if1 .left) (c .before .if2 .taken) (c .terminate .ensures)
+    exceeds-visits (workflow (a .w .now)) (a .t1) (a .node) (a .from) (a .mappings) (c .before .before .before .before .capped .ensures) (c .before .before .before .if1 .left) (c .before .if2 .taken) (c .terminate .ensures)
 
 element-copy-out-if3 : tie.Need-element-copy-out-if3
 element-copy-out-if3 c = search needs
@@ -46,7 +46,7 @@ terminate-requires-2 c κs = search needs
 returns-3 : tie.Need-returns-3
 returns-3 c =
     let a = c .before .before .before .before .before .before .before .before .args in
-    exceeds-activations (workflow (a .w .now)) (a .t1) (a .node) (a .come-from) (a .mappings) (c .before .before .before .before .before .before .capped .ensures) (c .before .before .before .before .before .if1 .left) (c .before .before .before .if2 .left) (c .before .if3 .taken) (c .terminate2 .ensures)
+    exceeds-activations (workflow (a .w .now)) (a .t1) (a .node) (a .from) (a .mappings) (c .before .before .before .before .before .before .capped .ensures) (c .before .before .before .before .before .if1 .left) (c .before .before .before .if2 .left) (c .before .if3 .taken) (c .terminate2 .ensures)
 
 element-copy-out-one-more : tie.Need-element-copy-out-one-more
 element-copy-out-one-more c = search needs
@@ -60,8 +60,8 @@ element-copy-out-one-more-2 c = search needs
 one-more-requires-2 : tie.Need-one-more-requires-2
 one-more-requires-2 c κs = search needs
 
-mul-t16 : tie.Need-mul-t16
-mul-t16 c = search needs
+mul-t15 : tie.Need-mul-t15
+mul-t15 c = search needs
 
 element-set-from-self : tie.Need-element-set-from-self
 element-set-from-self c = search needs
@@ -76,30 +76,18 @@ returns-4 : tie.Need-returns-4
 returns-4 c =
     let e = c .before .before .before in
     let a = e .before .before .before .before .before .before .before .before .before .before .before .before .args in
-    enters-activity (workflow (a .w .now)) (a .t1) (a .node) (a .come-from) (a .mappings) (e .before .before .before .before .before .before .before .before .before .before .capped .ensures) (e .before .before .before .before .before .before .before .before .before .if1 .left) (e .before .before .before .before .before .before .before .if2 .left) (e .before .before .before .before .before .if3 .left) (e .before .before .before .one-more .ensures) (e .before .one-more2 .ensures) (e .node-of .ensures)
+    enters-activity (workflow (a .w .now)) (a .t1) (a .node) (a .from) (a .mappings) (e .before .before .before .before .before .before .before .before .before .before .capped .ensures) (e .before .before .before .before .before .before .before .before .before .if1 .left) (e .before .before .before .before .before .before .before .if2 .left) (e .before .before .before .before .before .if3 .left) (e .before .before .before .one-more .ensures) (e .before .one-more2 .ensures) (e .node-of .ensures)
     (c .before .if4 .taken) (c .enter-activity .ensures)
 
-mul-t40 : tie.Need-mul-t40
-mul-t40 c = search needs
-
-element-copy-out-t43 : tie.Need-element-copy-out-t43
-element-copy-out-t43 c = search needs
-
-none-requires : tie.Need-none-requires
-none-requires c κs = search needs
-
-no-note-requires : tie.Need-no-note-requires
-no-note-requires c κs = search needs
-
-no-ending-requires : tie.Need-no-ending-requires
-no-ending-requires c κs = search needs
+enter-await-requires : tie.Need-enter-await-requires
+enter-await-requires c κs = search needs
 
 returns-5 : tie.Need-returns-5
 returns-5 c =
-    let e = c .before .before .before .before .before .before .before in
+    let e = c .before .before .before .before .before in
     let a = e .before .before .before .before .before .before .before .before .before .before .before .before .args in
-    enters-await (workflow (a .w .now)) (a .t1) (a .node) (a .come-from) (a .mappings) (e .before .before .before .before .before .before .before .before .before .before .capped .ensures) (e .before .before .before .before .before .before .before .before .before .if1 .left) (e .before .before .before .before .before .before .before .if2 .left) (e .before .before .before .before .before .if3 .left) (e .before .before .before .one-more .ensures) (e .before .one-more2 .ensures) (e .node-of .ensures)
-    (c .before .before .before .if5 .taken) (simp (← c .before .before .none .ensures, ← c .before .no-note .ensures, ← c .no-ending .ensures))
+    enters-await (workflow (a .w .now)) (a .t1) (a .node) (a .from) (a .mappings) (e .before .before .before .before .before .before .before .before .before .before .capped .ensures) (e .before .before .before .before .before .before .before .before .before .if1 .left) (e .before .before .before .before .before .before .before .if2 .left) (e .before .before .before .before .before .if3 .left) (e .before .before .before .one-more .ensures) (e .before .one-more2 .ensures) (e .node-of .ensures)
+    (c .before .if5 .taken) (c .enter-await .ensures)
 
 enter-complete-requires : tie.Need-enter-complete-requires
 enter-complete-requires c κs = search needs
@@ -108,7 +96,7 @@ returns-6 : tie.Need-returns-6
 returns-6 c =
     let e = c .before .before .before .before .before .before .before in
     let a = e .before .before .before .before .before .before .before .before .before .before .before .before .args in
-    enters-complete (workflow (a .w .now)) (a .t1) (a .node) (a .come-from) (a .mappings) (e .before .before .before .before .before .before .before .before .before .before .capped .ensures) (e .before .before .before .before .before .before .before .before .before .if1 .left) (e .before .before .before .before .before .before .before .if2 .left) (e .before .before .before .before .before .if3 .left) (e .before .before .before .one-more .ensures) (e .before .one-more2 .ensures) (e .node-of .ensures)
+    enters-complete (workflow (a .w .now)) (a .t1) (a .node) (a .from) (a .mappings) (e .before .before .before .before .before .before .before .before .before .before .capped .ensures) (e .before .before .before .before .before .before .before .before .before .if1 .left) (e .before .before .before .before .before .before .before .if2 .left) (e .before .before .before .before .before .if3 .left) (e .before .before .before .one-more .ensures) (e .before .one-more2 .ensures) (e .node-of .ensures)
     (c .before .if6 .taken) (c .enter-complete .ensures)
 
 terminate-requires-3 : tie.Need-terminate-requires-3
@@ -118,7 +106,7 @@ returns-7 : tie.Need-returns-7
 returns-7 c =
     let e = c .before .before .before .before .before .before .before in
     let a = e .before .before .before .before .before .before .before .before .before .before .before .before .args in
-    enters-fail (workflow (a .w .now)) (a .t1) (a .node) (a .come-from) (a .mappings) (e .before .before .before .before .before .before .before .before .before .before .capped .ensures) (e .before .before .before .before .before .before .before .before .before .if1 .left) (e .before .before .before .before .before .before .before .if2 .left) (e .before .before .before .before .before .if3 .left) (e .before .before .before .one-more .ensures) (e .before .one-more2 .ensures) (e .node-of .ensures)
+    enters-fail (workflow (a .w .now)) (a .t1) (a .node) (a .from) (a .mappings) (e .before .before .before .before .before .before .before .before .before .before .capped .ensures) (e .before .before .before .before .before .before .before .before .before .if1 .left) (e .before .before .before .before .before .before .before .if2 .left) (e .before .before .before .before .before .if3 .left) (e .before .before .before .one-more .ensures) (e .before .one-more2 .ensures) (e .node-of .ensures)
     (c .before .before .before .before .before .if4 .left) (c .before .before .before .if5 .left) (c .before .if6 .left) (c .terminate3 .ensures)
 
 pub enter-spec : {M : Type 1} → statement M
@@ -141,16 +129,12 @@ enter-spec =
     one-more-requires
     element-copy-out-one-more-2
     one-more-requires-2
-    mul-t16
+    mul-t15
     element-set-from-self
     node-of-requires
     enter-activity-requires
     returns-4
-    mul-t40
-    element-copy-out-t43
-    none-requires
-    no-note-requires
-    no-ending-requires
+    enter-await-requires
     returns-5
     enter-complete-requires
     returns-6

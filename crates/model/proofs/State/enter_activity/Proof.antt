@@ -18,12 +18,12 @@ enum-known-input c = search needs
 enum-told : tie.Need-enum-told
 enum-told c = search needs
 
-halt-requires : tie.Need-halt-requires
-halt-requires c κs = search needs
+without-value-requires : tie.Need-without-value-requires
+without-value-requires c κs = search needs
 
 returns : tie.Need-returns
 unfolding enter-activity
-returns c = halts _ _ _ _ _ _ _ _ (c .before .before .before .before .answer .ensures) (c .before .before .before .value .ensures) (c .before .enum-told .given .1) (c .halt .ensures)
+returns c = halts _ _ _ _ _ _ _ _ (c .before .before .before .before .answer .ensures) (c .before .before .before .value .ensures) (c .before .enum-told .given .1) (c .without-value .ensures)
 
 node-of-requires : tie.Need-node-of-requires
 node-of-requires c κs = search needs
@@ -50,7 +50,7 @@ enter-activity-spec =
     value-requires
     enum-known-input
     enum-told
-    halt-requires
+    without-value-requires
     returns
     node-of-requires
     enter-with-params-requires

@@ -1,4 +1,5 @@
-use Rattle.model.specs.EnterLaws.{enter-complete, evaluates, halts}
+use Rattle.model.specs.Step.{enter-complete}
+use Rattle.model.specs.EnterLaws.{evaluates, halts}
 use borrow.Author.Needs.{needs}
 use Rattle.model.proofs.State.enter_complete.Statement.{statement}
 use Rattle.model.proofs.State.enter_complete.Tie as tie
@@ -15,12 +16,12 @@ enum-known-output c = search needs
 enum-told : tie.Need-enum-told
 enum-told c = search needs
 
-halt-requires : tie.Need-halt-requires
-halt-requires c κs = search needs
+without-value-requires : tie.Need-without-value-requires
+without-value-requires c κs = search needs
 
 returns : tie.Need-returns
 unfolding enter-complete
-returns c = halts _ _ _ _ _ _ _ _ (c .before .before .before .before .answer .ensures) (c .before .before .before .value .ensures) (c .before .enum-told .given .1) (c .halt .ensures)
+returns c = halts _ _ _ _ _ _ _ _ (c .before .before .before .before .answer .ensures) (c .before .before .before .value .ensures) (c .before .enum-told .given .1) (c .without-value .ensures)
 
 finished-requires : tie.Need-finished-requires
 finished-requires c κs = search needs
@@ -40,7 +41,7 @@ enter-complete-spec =
     value-requires
     enum-known-output
     enum-told
-    halt-requires
+    without-value-requires
     returns
     finished-requires
     still-requires

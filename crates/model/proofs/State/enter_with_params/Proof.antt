@@ -15,12 +15,12 @@ enum-known-params c = search needs
 enum-told : tie.Need-enum-told
 enum-told c = search needs
 
-halt-requires : tie.Need-halt-requires
-halt-requires c κs = search needs
+without-value-requires : tie.Need-without-value-requires
+without-value-requires c κs = search needs
 
 returns : tie.Need-returns
 unfolding enter-with-params
-returns c = halts _ _ _ _ _ _ _ _ (c .before .before .before .before .answer .ensures) (c .before .before .before .value .ensures) (c .before .enum-told .given .1) (c .halt .ensures)
+returns c = halts _ _ _ _ _ _ _ _ (c .before .before .before .before .answer .ensures) (c .before .before .before .value .ensures) (c .before .enum-told .given .1) (c .without-value .ensures)
 
 schedule-requires : tie.Need-schedule-requires
 schedule-requires c κs = search needs
@@ -37,7 +37,7 @@ enter-with-params-spec =
     value-requires
     enum-known-params
     enum-told
-    halt-requires
+    without-value-requires
     returns
     schedule-requires
     returns-2)

@@ -10,13 +10,15 @@ use Rattle.laws.specs.Rows.{take-span}
 use Rattle.laws.specs.First.{Seek, seek-start, seek-hit, seek-miss, seek-end}
 use Rattle.workflow.specs.declared.Found.the-variants.{At, Nothing}
 use Rattle.model.specs.Record.{no-signal}
-use Rattle.model.specs.Store.{first-signal, stored}
+use Rattle.model.specs.Store.{first-signal, listed}
 use Rattle.model.proofs.State.first_signal.Statement.{statement}
 use Rattle.model.proofs.State.first_signal.Tie as tie
 
+-- The search among the places from i on gives what the search of the whole store gives.
 abbrev Inv-loop : tie.InvT-loop
 Inv-loop signal self n i₀ i = (n ≡ min 64 (self .«signal_count»)) × Seek (λ x. eqb (x .signal) signal) (λ i _. At i) Nothing (λ i. getD (self .signals) i no-signal) (min 64 (self .«signal_count»)) i (first-signal self signal)
 
+-- The stored signals that are not yet looked at.
 abbrev μ-loop : tie.MeasureT-loop
 μ-loop signal self n i₀ i = n - i
 
@@ -24,7 +26,7 @@ capped-requires : tie.Need-capped-requires Inv-loop μ-loop
 capped-requires c κs = search needs
 
 loop-holds : tie.Need-loop-holds Inv-loop μ-loop
-unfolding first-signal stored
+unfolding first-signal listed
 loop-holds c = (c .capped .ensures, rw (take-span no-signal (c .before .args .t1 .signals) 64 (c .before .args .t1 .«signal_count») (search (needs, length-field))) seek-start)
 
 mul-x : tie.Need-mul-x Inv-loop μ-loop

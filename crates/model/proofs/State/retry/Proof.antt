@@ -1,7 +1,7 @@
 use Prim.Native.Nat.{_+_}
-use Rattle.workflow.specs.Code.{largest}
+use Rattle.model.specs.Code.{largest}
 use native.Mathlib.Omega.{arith}
-use Rattle.model.specs.MachineLaws.{last-attempt, more-attempts, not-above}
+use Rattle.model.specs.RouteLaws.{last-attempt, more-attempts, not-above}
 use Rattle.model.specs.Step.{retry}
 use Rattle.laws.specs.Bool.{if_then_else_}
 use borrow.Author.Needs.{needs}
@@ -19,7 +19,7 @@ no-ending-requires c κs = search needs
 
 returns : tie.Need-returns
 unfolding retry if_then_else_
-returns c f = simp (← c .before .before .before .is-late .ensures, c .before .before .if1 .taken, ← c .before .no-note .ensures, ← c .no-ending .ensures)
+returns c = simp (← c .before .before .before .is-late .ensures, c .before .before .if1 .taken, ← c .before .no-note .ensures, ← c .no-ending .ensures)
 
 no-note-requires-2 : tie.Need-no-note-requires-2
 no-note-requires-2 c κs = search needs
@@ -29,26 +29,26 @@ no-ending-requires-2 c κs = search needs
 
 returns-2 : tie.Need-returns-2
 unfolding retry if_then_else_
-returns-2 c f = simp (← c .before .before .before .before .is-late .ensures, c .before .before .before .if1 .left, last-attempt _ (c .before .before .if2 .taken), ← c .before .no-note2 .ensures, ← c .no-ending2 .ensures)
+returns-2 c = simp (← c .before .before .before .before .is-late .ensures, c .before .before .before .if1 .left, last-attempt _ (c .before .before .if2 .taken), ← c .before .no-note2 .ensures, ← c .no-ending2 .ensures)
 
-add-t18 : tie.Need-add-t18
-add-t18 c = search needs
+add-t19 : tie.Need-add-t19
+add-t19 c = search needs
 
-add-t18-2 : tie.Need-add-t18-2
-add-t18-2 c = search needs
+add-t19-2 : tie.Need-add-t19-2
+add-t19-2 c = search needs
 
 no-ending-requires-3 : tie.Need-no-ending-requires-3
 no-ending-requires-3 c κs = search needs
 
-add-t23 : tie.Need-add-t23
-add-t23 c = omega (arith, not-above largest (c .before .before .before .before .before .before .args .self .«last_accepted_at» + c .before .before .before .before .before .before .args .delay) (c .before .before .before .before .is-late .ensures) (c .before .before .before .if1 .left))
+planned-requires : tie.Need-planned-requires
+planned-requires c κs = omega (arith, not-above largest (c .before .before .before .before .before .before .args .self .«last_accepted_at» + c .before .before .before .before .before .before .args .delay) (c .before .before .before .before .is-late .ensures) (c .before .before .before .if1 .left))
 
-add-t24 : tie.Need-add-t24
-add-t24 c = search needs
+add-t25 : tie.Need-add-t25
+add-t25 c = search needs
 
 returns-3 : tie.Need-returns-3
 unfolding retry if_then_else_
-returns-3 c f = simp (← c .before .before .before .before .is-late .ensures, c .before .before .before .if1 .left, more-attempts _ (c .before .before .if2 .left), ← c .no-ending3 .ensures)
+returns-3 c = simp (← c .before .before .before .before .before .is-late .ensures, c .before .before .before .before .if1 .left, more-attempts _ (c .before .before .before .if2 .left), ← c .before .no-ending3 .ensures, c .planned .ensures)
 
 pub retry-spec : {M : Type 1} → statement M
 retry-spec =
@@ -61,9 +61,9 @@ retry-spec =
     no-note-requires-2
     no-ending-requires-2
     returns-2
-    add-t18
-    add-t18-2
+    add-t19
+    add-t19-2
     no-ending-requires-3
-    add-t23
-    add-t24
+    planned-requires
+    add-t25
     returns-3)

@@ -1,6 +1,6 @@
 use borrow.Author.Tests.{le-leb}
 use Rattle.model.specs.Step.{route}
-use Rattle.model.specs.MachineLaws.{routes}
+use Rattle.model.specs.RouteLaws.{routes}
 use Rattle.laws.specs.Bool.{if_then_else_}
 use borrow.Author.Needs.{needs}
 use Rattle.model.proofs.State.route.Statement.{statement}
@@ -25,23 +25,23 @@ returns : tie.Need-returns
 unfolding route if_then_else_
 returns c = simp (← c .before .before .before .capped .ensures, le-leb _ _ (c .before .before .if1 .taken), ← c .before .no-note .ensures, ← c .no-ending .ensures)
 
-mul-t12 : tie.Need-mul-t12
-mul-t12 c = search needs
+mul-t13 : tie.Need-mul-t13
+mul-t13 c = search needs
 
 element-set-from-self : tie.Need-element-set-from-self
 element-set-from-self c = search needs
 
-limit-of-requires : tie.Need-limit-of-requires
-limit-of-requires c κs = search needs
+find-limit-requires : tie.Need-find-limit-requires
+find-limit-requires c κs = search needs
 
-mul-way-of : tie.Need-mul-way-of
-mul-way-of c = search needs
+mul-routing-of : tie.Need-mul-routing-of
+mul-routing-of c = search needs
 
-element-copy-out-way-of : tie.Need-element-copy-out-way-of
-element-copy-out-way-of c = search needs
+element-copy-out-routing-of : tie.Need-element-copy-out-routing-of
+element-copy-out-routing-of c = search needs
 
-way-of-requires : tie.Need-way-of-requires
-way-of-requires c κs = search needs
+routing-of-requires : tie.Need-routing-of-requires
+routing-of-requires c κs = search needs
 
 mul-streak : tie.Need-mul-streak
 mul-streak c = search needs
@@ -49,8 +49,8 @@ mul-streak c = search needs
 element-set-from-streak : tie.Need-element-set-from-streak
 element-set-from-streak c = search needs
 
-route-of-requires : tie.Need-route-of-requires
-route-of-requires c κs = search needs
+find-route-requires : tie.Need-find-route-requires
+find-route-requires c κs = search needs
 
 next-of-requires : tie.Need-next-of-requires
 next-of-requires c κs = search needs
@@ -59,7 +59,7 @@ no-ending-requires-2 : tie.Need-no-ending-requires-2
 no-ending-requires-2 c κs = search needs
 
 returns-2 : tie.Need-returns-2
-returns-2 c = routes _ _ _ _ (c .before .before .before .before .before .before .before .before .before .capped .ensures) (c .before .before .before .before .before .before .before .before .if1 .left) (c .before .before .before .before .before .before .before .limit-of .ensures) (c .before .before .before .before .before .way-of .ensures) (c .before .before .route-of .ensures) (c .before .next-of .ensures) (c .no-ending2 .ensures)
+returns-2 c = routes _ _ _ _ (c .before .before .before .before .before .before .before .before .before .capped .ensures) (c .before .before .before .before .before .before .before .before .if1 .left) (c .before .before .before .before .before .before .before .find-limit .ensures) (c .before .before .before .before .before .routing-of .ensures) (c .before .before .find-route .ensures) (c .before .next-of .ensures) (c .no-ending2 .ensures)
 
 pub route-spec : {M : Type 1} → statement M
 route-spec =
@@ -71,15 +71,15 @@ route-spec =
     no-note-requires
     no-ending-requires
     returns
-    mul-t12
+    mul-t13
     element-set-from-self
-    limit-of-requires
-    mul-way-of
-    element-copy-out-way-of
-    way-of-requires
+    find-limit-requires
+    mul-routing-of
+    element-copy-out-routing-of
+    routing-of-requires
     mul-streak
     element-set-from-streak
-    route-of-requires
+    find-route-requires
     next-of-requires
     no-ending-requires-2
     returns-2)

@@ -1,4 +1,3 @@
-use native.Mathlib.Nat.{add-zero}
 use Rattle.model.specs.Step.{schedule}
 use borrow.Author.Needs.{needs}
 use Rattle.model.proofs.State.schedule.Statement.{statement}
@@ -10,6 +9,12 @@ visits-at-requires c κs = search needs
 node-of-requires : tie.Need-node-of-requires
 node-of-requires c κs = search needs
 
+at-requires : tie.Need-at-requires
+at-requires c κs = search needs
+
+planned-requires : tie.Need-planned-requires
+planned-requires c κs = search needs
+
 no-note-requires : tie.Need-no-note-requires
 no-note-requires c κs = search needs
 
@@ -18,9 +23,16 @@ no-ending-requires c κs = search needs
 
 returns : tie.Need-returns
 unfolding schedule
-returns c = simp (← c .before .before .before .visits-at .ensures, ← c .before .before .node-of .ensures, ← c .before .no-note .ensures, ← c .no-ending .ensures, add-zero)
+returns c = simp (← c .before .before .before .before .before .visits-at .ensures, ← c .before .before .before .before .node-of .ensures, ← c .before .before .before .at .ensures, ← c .before .before .planned .ensures, ← c .before .no-note .ensures, ← c .no-ending .ensures)
 
 pub schedule-spec : {M : Type 1} → statement M
 schedule-spec =
     tie.close
-    (tie.spec visits-at-requires node-of-requires no-note-requires no-ending-requires returns)
+    (tie.spec
+    visits-at-requires
+    node-of-requires
+    at-requires
+    planned-requires
+    no-note-requires
+    no-ending-requires
+    returns)

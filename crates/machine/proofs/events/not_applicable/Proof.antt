@@ -1,0 +1,17 @@
+use Rattle.machine.specs.Events.{not-applicable}
+use borrow.Author.Needs.{needs}
+use Rattle.machine.proofs.events.not_applicable.Statement.{statement}
+use Rattle.machine.proofs.events.not_applicable.Tie as tie
+
+named-node-requires : tie.Need-named-node-requires
+named-node-requires c κs = search needs
+
+no-ending-requires : tie.Need-no-ending-requires
+no-ending-requires c κs = search needs
+
+returns : tie.Need-returns
+unfolding not-applicable
+returns c = simp (← c .before .named-node .ensures, ← c .no-ending .ensures)
+
+pub not-applicable-spec : {M : Type 1} → statement M
+not-applicable-spec = tie.close (tie.spec named-node-requires no-ending-requires returns)

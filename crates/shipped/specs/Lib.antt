@@ -1,0 +1,7 @@
+-- definitions
+pub mod Shipped
+-- laws
+pub mod Sheet
+pub mod Ranges
+pub mod OneCall
+pub mod Holds

@@ -1,0 +1,5 @@
+-- definitions
+pub mod Check
+pub mod EventCheck
+-- laws
+pub mod CheckLaws
