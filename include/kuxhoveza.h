@@ -207,10 +207,15 @@ extern "C" {
  * can't hold; the record has one. The record counts only where number KUXHOVEZA_CALL_HAS_RECORD of the call is
  * 1, and must be lent all the same. The buffer must not overlap the other arrays.
  *
- * What a field holds: 64 bits for sequences, times and delays; 0 or 1 for a mark; 8 bits for a node, an action, a signal
- * and an outcome; 16 bits for an error's code; 32 bits for all else. A call's numbers are held to this also where its
- * kind of event or its count of mapping answers doesn't read them, a record's also behind the count of its stored
- * signals (docs/NUMBERS.md, field by field).
+ * What a field holds. A call's numbers are held to this also where its kind of event or its count of mapping answers
+ * doesn't read them, a record's also behind the count of its stored signals (docs/NUMBERS.md has it as a table):
+ *   64 bits   sequences (of a stored signal too), accepted times, CALL_DELAY
+ *   0 or 1    CALL_HAS_RECORD, CALL_HAS_ERROR, CALL_RETRYABLE, the mark of the kept error
+ *   8 bits    CALL_SIGNAL, CALL_OUTCOME, CALL_NODE; RECORD_POSITION_NODE, RECORD_INVOCATION_NODE,
+ *             RECORD_INVOCATION_ACTION; the node of the kept error and of an output that is an error; signal and
+ *             outcome of a stored signal; outcome of a streak and of a node's result
+ *   16 bits   CALL_ERROR_CODE; the code of both mapping answers, of the kept error and of an output that is an error
+ *   32 bits   all else. An output's kind is 0, 1 or 2, and what it gives no meaning is 0, as behind a mark of 0.
  *
  * Only the record of a KUXHOVEZA_NEXT is one to keep and to lend to the next call. A refusal has none; and the record of a
  * KUXHOVEZA_WANT is for the evaluation of the wanted value alone, and must never be kept: a later call would take it, and a
