@@ -1,8 +1,7 @@
 -- A list of calls of the code is the list of the definition, so demand 3 speaks of the code.
-use mathlib.Core.Path.{_≡_, refl, sym, _∙_, ap, subst}
+use mathlib.Core.Path.{_≡_, refl, sym, ap, subst}
 use mathlib.Core.Bool.{Bool}
 use mathlib.Core.List.{List, [], _∷_, _++_, map}
-use Prim.Native.Nat.{ℕ, suc}
 use lib.ListN.{length, take}
 use Rattle.laws.specs.Listing.{padded}
 use Rattle.workflow.specs.View.{Workflow}

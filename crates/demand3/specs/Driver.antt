@@ -28,7 +28,7 @@ use Rattle.model.specs.Code.{activity-result, no-retry, unencodable}
 use Rattle.model.specs.Record.{is-terminal, seen}
 use Rattle.model.specs.Store.{first-signal, signal-at, removed}
 use Rattle.model.specs.StoreLaws.{first-inside}
-use Rattle.model.specs.Step.{no-note, still, arrival, enter, take}
+use Rattle.model.specs.Step.{no-note, still, arrival}
 use Rattle.machine.specs.Events.{apply}
 use Rattle.kernel.specs.Code.{microsteps-exceeded}
 use Rattle.kernel.specs.Drive.{Machine, added, moved, counting, consume-by, advance-by, advance, moves-on, is-moving, opened, started, driven}

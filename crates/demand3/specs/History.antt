@@ -1,14 +1,14 @@
 -- What stands after a list of accepted calls, and how one call more keeps it.
 use mathlib.Core.Path.{_≡_, refl, sym, _∙_, ap}
-use mathlib.Core.Bool.{Bool, true, false, not, false≢true}
+use mathlib.Core.Bool.{Bool, true, false, false≢true}
 use mathlib.Core.Logic.{_⊎_, inl, inr}
 use mathlib.Core.List.{List, [], _∷_, _++_}
-use Prim.Native.Nat.{ℕ, zero, suc, _+_, _≤_, _<_, max}
+use Prim.Native.Nat.{ℕ, _+_, _≤_, _<_}
 use native.Mathlib.Omega.{arith}
-use lib.ListN.{getD, length, replicate, List·getD-eq-default}
+use lib.ListN.{getD, List·getD-eq-default}
 use lib.Dec.{eqb}
-use borrow.Author.Tests.{ne-eqb, eqb-true, eqb-false, not-true}
-use Rattle.laws.specs.Bool.{if_then_else_, _and_, both, if-true, if-false, split}
+use borrow.Author.Tests.{ne-eqb, eqb-true, eqb-false}
+use Rattle.laws.specs.Bool.{if_then_else_, _and_, both, split}
 use Rattle.laws.specs.Every.{every}
 use Rattle.laws.specs.All.{All, Distinct, all-map, all-replicate}
 use Rattle.laws.specs.In.{In, head, tail}

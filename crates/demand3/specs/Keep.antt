@@ -34,7 +34,7 @@ use Rattle.model.specs.declared.answer.Ending.{Ending}
 use Rattle.model.specs.declared.moves.Next.{Next}
 use Rattle.model.specs.declared.moves.Next.the-variants.{Rest, Enter, Take, Consume, Wants, Refuse}
 use Rattle.model.specs.declared.moves.Move.{Move}
-use Rattle.model.specs.Record.{no-signal, no-visits, visits-of, is-terminal, seen}
+use Rattle.model.specs.Record.{no-visits, visits-of, is-terminal, seen}
 use Rattle.model.specs.Store.{stored, signal-at, removed, appended}
 use Rattle.model.specs.Step.{no-ending, still, reading, one-more-visit, phased, arrival, terminate, evaluate, schedule, enter-activity, enter-await, enter-complete, arrive, enter, follow-to, route-limited, route, take-by, take as take-signal, retry}
 use Rattle.machine.specs.Events.{named, applies, not-applicable, complete-invocation, stick, fail-invocation, on-signal, on-success, on-failure, on-unknown, on-result, resolve-as-complete, resolve-as-fail, on-resolved, on-ended, react, apply}

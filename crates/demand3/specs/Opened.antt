@@ -1,7 +1,7 @@
 -- Where an attempt is open, it is the one that the call orders, or it was open before: what every move keeps of it.
 use mathlib.Core.Path.{_≡_, refl}
 use mathlib.Core.Bool.{Bool, false}
-use mathlib.Core.List.{List, [], _∷_}
+use mathlib.Core.List.{[], _∷_}
 use Prim.Native.Nat.{ℕ}
 use lib.Dec.{eqb}
 use Rattle.laws.specs.Bool.{if_then_else_, either}

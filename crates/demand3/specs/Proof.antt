@@ -1,10 +1,9 @@
 -- The proof of demand 3.
-use mathlib.Core.Path.{_≡_, refl, sym, _∙_, ap}
-use mathlib.Core.Bool.{Bool, true, false}
+use mathlib.Core.Path.{_≡_, refl, ap}
 use mathlib.Core.List.{List, [], _∷_, _++_}
-use Prim.Native.Nat.{ℕ, zero, suc, _+_, _≤_, _<_}
+use Prim.Native.Nat.{ℕ, zero, suc, _+_, _≤_}
 use native.Mathlib.Omega.{arith}
-use Rattle.laws.specs.Bool.{if_then_else_, either}
+use Rattle.laws.specs.Bool.{either}
 use Rattle.laws.specs.All.{All}
 use Rattle.workflow.specs.View.{Workflow}
 use Rattle.workflow.specs.Sound.{Sound}
@@ -23,7 +22,7 @@ use Rattle.kernel.specs.Call.{Accepted, Answer, next, wants, refused, Last, no-
 use Rattle.demand3.specs.Words.{times}
 use Rattle.demand3.specs.Tidy as Tidy
 use Rattle.demand3.specs.Tidy.{Sized}
-use Rattle.demand3.specs.Demand3.{Entry, standing-after, standing, next-entry, history, Done, done-by, accepted, signals, in-store, endings, Fate, no-signal, still-stored, has-ended, counts, Reports, Not-26, Demand3, demand-3, Ordered-before, applied-were-ordered}
+use Rattle.demand3.specs.Demand3.{Entry, standing-after, standing, next-entry, history, Done, done-by, accepted, signals, in-store, Fate, no-signal, still-stored, has-ended, counts, Reports, Not-26, Demand3, demand-3, Ordered-before, applied-were-ordered}
 use Rattle.demand3.specs.Driver.{Keeps, kept-driven, driven-frozen, driven-hears}
 use Rattle.demand3.specs.History.{Fact, History, fresh-history, one-more}
 use Rattle.demand3.specs.Single.{Sized-last, Admitted, admitted, Begins, begins, Single, Proper, every-call}

@@ -1,15 +1,14 @@
 -- Of every single call, on whatever sheet and record: no refusal is 0, which would be the original's internal failures; the run check takes the next record; an answer
 -- has at most 65 notes and 65 endings; at most 130 microsteps are come to, an accepted answer reports them, and at a limit of 130 or more none is refused with 26.
 use mathlib.Core.Path.{_≡_, refl, sym, _∙_}
-use mathlib.Core.Bool.{Bool, true, false, not, false≢true}
+use mathlib.Core.Bool.{true, false, not, false≢true}
 use mathlib.Core.Logic.{_⊎_, inl, inr}
-use mathlib.Core.List.{List, [], _∷_}
 use Prim.Native.Nat.{ℕ, _+_, _≤_, _<_}
 use native.Mathlib.Omega.{arith}
-use lib.Dec.{eqb, leb, ltb}
+use lib.Dec.{eqb}
 use lib.ListN.{length}
 use borrow.Author.Tests.{eqb-true, not-true, leb-true, ltb-true}
-use Rattle.laws.specs.Bool.{if_then_else_, _and_, _or_, both, if-true, if-false, either, split}
+use Rattle.laws.specs.Bool.{_and_, _or_, both, if-true, if-false, either, split}
 use Rattle.laws.specs.All.{All}
 use Rattle.workflow.specs.Code.{none}
 use Rattle.workflow.specs.View.{Workflow}

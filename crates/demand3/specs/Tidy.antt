@@ -2,8 +2,8 @@
 use mathlib.Core.Path.{_≡_, refl, sym, _∙_, ap}
 use mathlib.Core.Logic.{_⊎_, inl, inr}
 use mathlib.Core.Bool.{Bool, true, false, not, false≢true}
-use mathlib.Core.List.{List, [], _∷_}
-use Prim.Native.Nat.{ℕ, suc, _+_, _-_, _≤_, _<_}
+use mathlib.Core.List.{List}
+use Prim.Native.Nat.{ℕ, _+_, _-_, _≤_, _<_}
 use native.Mathlib.Omega.{arith}
 use lib.ListN.{length, getD}
 use lib.Seq.{getD-set-same}
@@ -37,7 +37,7 @@ use Rattle.model.specs.declared.answer.Params.{Params}
 use Rattle.model.specs.declared.moves.Next.{Next}
 use Rattle.model.specs.declared.moves.Next.the-variants.{Rest, Enter, Take, Consume, Wants, Refuse}
 use Rattle.model.specs.declared.moves.Move.{Move}
-use Rattle.model.specs.Record.{no-signal, no-visits, no-streak, no-node-result, no-invocation, fresh, visits-of, streak-of, is-terminal, set-signals, set-visits, set-results, set-streaks, with-streak, with-result, seen, placed, finished}
+use Rattle.model.specs.Record.{no-visits, no-streak, no-node-result, no-invocation, fresh, visits-of, streak-of, is-terminal, set-signals, set-visits, set-results, set-streaks, with-streak, with-result, seen, placed, finished}
 use Rattle.model.specs.Store.{listed, removed, appended, signals-fit}
 use Rattle.model.specs.Step.{still, position, one-more-visit, phased, arrival, terminate, evaluate, schedule, enter-activity, enter-await, enter-complete, arrive, enter, follow-to, follow, route-limited, route, signal-outcome, take-by, take as take-signal, retry}
 use Rattle.machine.specs.Events.{named, applies, not-applicable, complete-invocation, stick, fail-invocation, on-signal, on-success, on-failure, on-unknown, on-result, resolve-as-complete, resolve-as-fail, on-resolved, on-ended, react}

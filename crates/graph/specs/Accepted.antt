@@ -6,7 +6,7 @@ use Prim.Native.Nat.{ℕ, _<_}
 use native.Mathlib.Omega.{arith}
 use lib.Dec.{eqb, ltb}
 use borrow.Author.Tests.{eq-eqb, eqb-true, not-false, ltb-true, leb-false}
-use Rattle.laws.specs.Bool.{if_then_else_, _and_, _or_, split, both, neither, implied}
+use Rattle.laws.specs.Bool.{if_then_else_, _or_, split, both, neither, implied}
 use Rattle.laws.specs.Rows.{span}
 use Rattle.laws.specs.First.{some}
 use Rattle.laws.specs.In.{In, every-in, Hit, hit, miss, hits, some-found, none-found}

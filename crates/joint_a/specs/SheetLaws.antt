@@ -1,13 +1,13 @@
 -- The numbers are read as the sheet of Joint A.
-use mathlib.Core.Path.{_≡_, refl, sym, _∙_, ap}
-use mathlib.Core.Bool.{Bool, true, false}
+use mathlib.Core.Path.{_≡_, refl, _∙_}
+use mathlib.Core.Bool.{Bool, true}
 use mathlib.Core.List.{List, [], _∷_}
 use Prim.Native.Nat.{ℕ, zero, suc, _+_, _-_, _≤_, _<_, min}
 use native.Mathlib.Omega.{arith}
 use lib.ListN.{getD, set, replicate}
 use lib.Seq.{getD-set-other}
 use lib.Dec.{eqb, ltb, leb}
-use borrow.Author.Tests.{ltb-true, ltb-false, leb-true, eq-eqb}
+use borrow.Author.Tests.{ltb-true, leb-true, eq-eqb}
 use Rattle.laws.specs.Bool.{if_then_else_, _and_, _or_, both, join, split}
 use Rattle.laws.specs.Rows.{rows, span}
 use Rattle.laws.specs.Every.{every}

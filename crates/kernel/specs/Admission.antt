@@ -1,9 +1,7 @@
 -- The record that a call is given, by its mark, and what an admitted call comes to.
 use mathlib.Core.Path.{_≡_, sym}
-use mathlib.Core.Bool.{Bool, true, false, not, false≢true}
-use mathlib.Core.List.{List, [], _∷_}
-use Prim.Native.Nat.{ℕ, _+_, _≤_}
-use lib.Dec.{eqb}
+use mathlib.Core.Bool.{Bool, true, false, false≢true}
+use Prim.Native.Nat.{ℕ, _≤_}
 use Rattle.laws.specs.Bool.{both}
 use Rattle.workflow.specs.View.{Workflow}
 use Rattle.graph.specs.declared.Verdict.{Verdict}
@@ -15,11 +13,10 @@ use Rattle.kernel.specs.declared.Limits.{Limits}
 use Rattle.model.specs.Record.{fresh}
 use Rattle.model.specs.StoreLaws.{fits-few}
 use Rattle.snapshot.specs.Check.{consistent}
-use Rattle.snapshot.specs.EventCheck.{event-fits}
 use Rattle.kernel.specs.declared.Call.{Call}
 use Rattle.kernel.specs.Code.{inconsistent}
 use Rattle.kernel.specs.Drive.{driven}
-use Rattle.kernel.specs.Call.{last, given-record, is-start, start-stage, next-stage, record-stage, admission, given, refused, finish, transition-by, transition}
+use Rattle.kernel.specs.Call.{given-record, start-stage, next-stage, record-stage, admission, given, refused, finish, transition-by, transition}
 use Rattle.kernel.specs.Decision.{decision-of}
 
 module _ (f : Workflow) (s : State) (c : Call) {b : Bool} {v : Verdict} where

@@ -1,13 +1,12 @@
 -- What a call may still count and list, on every sheet and every record of at most 64 stored signals: 131 moves, 130 microsteps, 65 notes and 65 endings are enough.
 use mathlib.Core.Path.{_≡_, refl, sym, ap, subst}
-use mathlib.Core.Bool.{Bool, true, false}
-use mathlib.Core.List.{List, [], _∷_, _++_}
-use Prim.Native.Nat.{ℕ, zero, suc, _+_, _*_, _≤_, _<_}
+use mathlib.Core.Bool.{false}
+use mathlib.Core.List.{List, [], _∷_}
+use Prim.Native.Nat.{ℕ, suc, _+_, _*_, _≤_}
 use native.Mathlib.Omega.{arith}
 use lib.Dec.{eqb, ltb}
-use lib.ListN.{length, length-take, length-append}
+use lib.ListN.{length, length-append}
 use Rattle.laws.specs.Bool.{if_then_else_, split, either}
-use Rattle.laws.specs.Settle.{settle}
 use Rattle.workflow.specs.View.{Workflow}
 use Rattle.workflow.specs.Lookup.{node-of}
 use Rattle.workflow.specs.declared.Node.{Node}
@@ -24,10 +23,10 @@ use Rattle.model.specs.declared.moves.Move.{Move}
 use Rattle.model.specs.Record.{seen}
 use Rattle.model.specs.Store.{first-signal, signal-at, removed}
 use Rattle.model.specs.StoreLaws.{first-inside}
-use Rattle.model.specs.Step.{no-note, no-ending, still, arrival, enter, take}
+use Rattle.model.specs.Step.{no-note, no-ending, arrival, enter, take}
 use Rattle.machine.specs.Events.{apply}
 use Rattle.kernel.specs.Cost.{cost, entered, costs-take, reacted, removed-count}
-use Rattle.kernel.specs.Drive.{Machine, added, moved, counting, consume-by, advance-by, advance, moves-on, is-moving, opened, started, driven}
+use Rattle.kernel.specs.Drive.{Machine, added, moved, counting, consume-by, advance-by, advance, moves-on, started}
 
 -- WHAT MAY STILL COME, by what comes next and how many signals are stored: moves, and notes or endings; and the signals that may be taken.
 abbrev pub need : Next → (stored : ℕ) → ℕ

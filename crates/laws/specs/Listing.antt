@@ -1,9 +1,9 @@
 -- A list in an array of a fixed size, filled up with a default.
-use mathlib.Core.Path.{_≡_, refl, ap, sym, _∙_}
+use mathlib.Core.Path.{_≡_, refl, ap}
 use mathlib.Core.List.{List, [], _∷_, _++_}
-use Prim.Native.Nat.{ℕ, zero, suc, _+_, _-_, _≤_, _<_}
+use Prim.Native.Nat.{ℕ, zero, suc, _+_, _-_, _<_}
 use native.Mathlib.Omega.{arith}
-use lib.ListN.{length, set, take, replicate, length-append}
+use lib.ListN.{length, set, replicate, length-append}
 
 unfoldable pub padded : {A : Type 0} → (size : ℕ) → A → List A → List A
 padded size d xs = xs ++ replicate (size - length xs) d

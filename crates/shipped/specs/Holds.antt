@@ -1,7 +1,7 @@
 -- What a host reads of its calls is the list of demand 3, so demand 3 speaks of what is shipped.
 use mathlib.Core.Path.{_≡_, refl, sym, _∙_, ap, subst}
 use mathlib.Core.Bool.{true, false, not}
-use mathlib.Core.List.{List, [], _∷_, _++_}
+use mathlib.Core.List.{List, [], _∷_}
 use Prim.Native.Nat.{ℕ}
 use native.Mathlib.Omega.{arith}
 use lib.ListN.{length}

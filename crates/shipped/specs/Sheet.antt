@@ -6,7 +6,7 @@ use Prim.Native.Nat.{ℕ, _+_, _<_}
 use native.Mathlib.Omega.{arith}
 use lib.ListN.{getD}
 use borrow.Author.Tests.{eq-eqb, eqb-true, ltb-true, leb-false}
-use Rattle.laws.specs.Bool.{if_then_else_, _and_, both, either, neither, implied}
+use Rattle.laws.specs.Bool.{if_then_else_, both, either, neither, implied}
 use Rattle.laws.specs.All.{All, all-getD, all-in}
 use Rattle.laws.specs.In.{Hit, hit, miss, hits}
 use Rattle.workflow.specs.Code.{activity}
