@@ -56,6 +56,19 @@ extern "C" {
 /* All numbers of a sheet. */
 #define KUXHOVEZA_SHEET 4169
 
+/* The layout's version: one more with every change of what stands below or of the sheet's layout. */
+#define KUXHOVEZA_LAYOUT_VERSION 1
+
+/* What a function returns: what it answers is written; or the buffer for it is too short, the call or the record has a
+ * number that its field can't hold, or an array has not the length that the layout says. Then nothing is written. */
+#define KUXHOVEZA_WRITTEN 0
+#define KUXHOVEZA_SHORT_BUFFER 1
+#define KUXHOVEZA_BAD_CALL 2
+#define KUXHOVEZA_BAD_RECORD 3
+#define KUXHOVEZA_BAD_SHEET_LENGTH 4
+#define KUXHOVEZA_BAD_CALL_LENGTH 5
+#define KUXHOVEZA_BAD_RECORD_LENGTH 6
+
 /* Capacities. */
 #define KUXHOVEZA_STORE 64
 #define KUXHOVEZA_MAPPINGS 2
@@ -157,6 +170,11 @@ extern "C" {
 #define KUXHOVEZA_ANSWER_REFUSAL_NUMBER 1
 #define KUXHOVEZA_ANSWER_REFUSAL_ITEM 2
 
+/* Verdict: the refusal's number and its item; 0 and 0 for a sheet that is accepted. */
+#define KUXHOVEZA_VERDICT_NUMBER 0
+#define KUXHOVEZA_VERDICT_ITEM 1
+#define KUXHOVEZA_VERDICT 2
+
 /* End of the layout. */
 
 /* What stands in a row of WIDTH numbers:
@@ -195,12 +213,6 @@ extern "C" {
 #define KUXHOVEZA_NEXT 1
 #define KUXHOVEZA_WANT 2
 #define KUXHOVEZA_REFUSAL 3
-
-/* What kuxhoveza_transition returns. */
-#define KUXHOVEZA_WRITTEN 0
-#define KUXHOVEZA_SHORT_BUFFER 1
-#define KUXHOVEZA_BAD_CALL 2
-#define KUXHOVEZA_BAD_RECORD 3
 
 /* One call: writes the answer into the first KUXHOVEZA_ANSWER numbers of the buffer and returns KUXHOVEZA_WRITTEN.
  * Or returns why not, and leaves the buffer as it was: it is shorter than that; the call has a number that its field

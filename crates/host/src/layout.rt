@@ -1,5 +1,24 @@
 // Where each number of a run record, a call and an answer stands (docs/NUMBERS.md). The header's numbers are made from this file.
 
+// The layout's version: one more with every change of what stands below or of the sheet's layout.
+pub const LAYOUT_VERSION: u32 = 1;
+
+// What a function returns: what it answers is written; or the buffer for it is too short, the call or the record has a
+// number that its field can't hold, or an array has not the length that the layout says. Then nothing is written.
+pub const WRITTEN: u32 = 0;
+
+pub const SHORT_BUFFER: u32 = 1;
+
+pub const BAD_CALL: u32 = 2;
+
+pub const BAD_RECORD: u32 = 3;
+
+pub const BAD_SHEET_LENGTH: u32 = 4;
+
+pub const BAD_CALL_LENGTH: u32 = 5;
+
+pub const BAD_RECORD_LENGTH: u32 = 6;
+
 // Capacities.
 pub const STORE: usize = 64;
 
@@ -179,3 +198,10 @@ pub const ANSWER_WANT_FROM: usize = 3;
 pub const ANSWER_REFUSAL_NUMBER: usize = 1;
 
 pub const ANSWER_REFUSAL_ITEM: usize = 2;
+
+// Verdict: the refusal's number and its item; 0 and 0 for a sheet that is accepted.
+pub const VERDICT_NUMBER: usize = 0;
+
+pub const VERDICT_ITEM: usize = 1;
+
+pub const VERDICT: usize = 2;
