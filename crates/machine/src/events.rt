@@ -1,35 +1,34 @@
-// The events, each a move.
+// The events: what each makes of a run.
 use crate::invocation::applies;
-use crate::invocation::complete_invocation;
 use crate::invocation::fail_invocation;
 use crate::invocation::named;
 use crate::invocation::named_node;
+use crate::reaction::Reaction;
 use model::BufferedSignal;
 use model::InvocationState;
 use model::Kept;
 use model::Output;
+use model::Position;
 use model::State;
 use model::answer::Ending;
 use model::answer::Note;
-use model::answer::Order;
 use model::code;
 use model::event::Event;
-use model::moves::Move;
 use model::moves::Next;
 use model::moves::no_ending;
-use model::moves::still;
 use workflow::code as sheet;
 use workflow::layout::NUMBERS;
 ghost use mathlib.Core.Path.{_≡_};
 ghost use mathlib.Core.Bool.{not};
 ghost use lib.Dec.{ltb, eqb};
 ghost use Rattle.laws.specs.Bool.{_and_};
-ghost use Rattle.workflow.specs.View.{workflow};
+ghost use Rattle.workflow.specs.View.{Workflow, workflow};
 ghost use Rattle.workflow.specs.Lookup.{node-of, policy-of};
 ghost use Rattle.workflow.specs.Code.{repeatable};
 ghost use Rattle.model.specs.Code.{waiting};
 ghost use Rattle.model.specs.Step.{arrival};
 ghost use Rattle.machine.specs.Events.{success-outcome, not-applicable, on-ended, delay-of, on-signal, on-success, on-failure, on-unknown, on-result, resolve-as-complete, resolve-as-fail, on-resolved};
+ghost use Rattle.machine.specs.ReactionLaws.{performed, At, Stands, Reacts};
 
 // The run waits, and for this signal.
 fn awaits(status: u32, awaited: u32, signal: u32) -> bool
@@ -106,18 +105,21 @@ pub fn arrival(event: Event) -> BufferedSignal
 }
 
 // An arrival that the run waits for is taken ahead of the store. Otherwise it is stored last; one too many is dropped.
-pub fn on_signal(w: &[u32; NUMBERS], s: State, event: Event) -> Move
-    ensures { λ r. ⌜ r ≡ on-signal (workflow (now (w .entry))) s event ⌝ }
+pub fn on_signal(
+    w: &[u32; NUMBERS],
+    status: u32,
+    position: Position,
+    count: u32,
+    event: Event,
+) -> Reaction
+    ensures { λ r. ⌜ ((invocation : InvocationState) → Reacts (workflow (now (w .entry))) event r (Stands status position invocation count) on-signal) ⌝ }
 {
-    let position = s.position;
     let row = workflow::node_of(w, position.node);
-    if awaits(s.status, row.signal, event.signal) {
-        return still(s, Next::Take);
+    if awaits(status, row.signal, event.signal) {
+        return Reaction::Pass(Next::Take);
     }
-    if State::STORE <= s.signal_count {
-        return Move {
-            state: s,
-            next: Next::Rest,
+    if State::STORE <= count {
+        return Reaction::Say {
             note: Note {
                 code: code::NOTE_OVERFLOW,
                 node: sheet::NONE,
@@ -129,98 +131,97 @@ pub fn on_signal(w: &[u32; NUMBERS], s: State, event: Event) -> Move
                 sequence: event.sequence,
                 ending: code::END_OVERFLOW,
             },
-            order: Order::Nothing,
-            read: 0,
         };
     }
-    let stored = s.append_signal(arrival(event));
-    still(stored, Next::Rest)
+    Reaction::Store
 }
 
 // An outcome that the action doesn't declare is a failure.
-fn on_success(w: &[u32; NUMBERS], s: State, event: Event) -> Move
-    ensures { λ r. ⌜ r ≡ on-success (workflow (now (w .entry))) s event ⌝ }
+fn on_success(
+    w: &[u32; NUMBERS],
+    position: Position,
+    invocation: InvocationState,
+    event: Event,
+) -> Reaction
+    ensures { λ r. ⌜ Reacts (workflow (now (w .entry))) event r (At position invocation) on-success ⌝ }
 {
-    let position = s.position;
     let outcome = success_outcome(event.outcome);
+    let output = Output::Handle(event.output);
     if workflow::declares(w, action_at(w, position.node), outcome) {
-        return complete_invocation(w, s, outcome, Output::Handle(event.output));
+        return Reaction::Route { outcome, output };
     }
-    fail_invocation(w, s, code::UNDECLARED_OUTCOME, outcome, true)
+    let code = code::UNDECLARED_OUTCOME;
+    fail_invocation(w, position, invocation, code, outcome, true)
 }
 
 // A failure is retried, or fails the invocation with its error if it has one.
-fn on_failure(w: &[u32; NUMBERS], s: State, event: Event) -> Move
-    ensures { λ r. ⌜ r ≡ on-failure (workflow (now (w .entry))) s event ⌝ }
+fn on_failure(
+    w: &[u32; NUMBERS],
+    position: Position,
+    invocation: InvocationState,
+    event: Event,
+) -> Reaction
+    ensures { λ r. ⌜ Reacts (workflow (now (w .entry))) event r (At position invocation) on-failure ⌝ }
 {
-    let position = s.position;
     let action = action_at(w, position.node);
     if may_retry_failure(w, action, event.attempt, event.retryable) {
-        return s.retry(w, delay_of(w, action, event));
+        return Reaction::Retry(delay_of(w, action, event));
     }
     if event.has_error {
-        return fail_invocation(w, s, event.code, event.detail, true);
+        return fail_invocation(w, position, invocation, event.code, event.detail, true);
     }
-    fail_invocation(w, s, code::ACTIVITY_FAILED, 0, true)
+    fail_invocation(w, position, invocation, code::ACTIVITY_FAILED, 0, true)
 }
 
 // Unknown or expired on effect 1 parks the run.
-fn on_unknown(w: &[u32; NUMBERS], mut s: State, event: Event) -> Move
-    ensures { λ r. ⌜ r ≡ on-unknown (workflow (now (w .entry))) s event ⌝ }
+fn on_unknown(
+    w: &[u32; NUMBERS],
+    position: Position,
+    invocation: InvocationState,
+    event: Event,
+) -> Reaction
+    ensures { λ r. ⌜ Reacts (workflow (now (w .entry))) event r (At position invocation) on-unknown ⌝ }
 {
-    let position = s.position;
     let action = action_at(w, position.node);
     if needs_person(w, action) {
-        let old = s.invocation;
-        let invocation = InvocationState {
+        return Reaction::Park {
             phase: code::UNKNOWN,
-            node: old.node,
-            visit: old.visit,
-            action: old.action,
-            attempt: old.attempt,
-            input: old.input,
             error: Kept::Nothing,
-        };
-        s.status = code::NEEDS_INTERVENTION;
-        s.invocation = invocation;
-        return Move {
-            state: s,
-            next: Next::Rest,
             note: Note {
                 code: code::NOTE_UNKNOWN,
                 node: position.node,
-                a: old.visit,
-                b: old.attempt,
+                a: invocation.visit,
+                b: invocation.attempt,
                 c: event.status,
             },
-            ending: no_ending(),
-            order: Order::Nothing,
-            read: 0,
         };
     }
     if may_retry(w, action, event.attempt) {
-        return s.retry(w, delay_of(w, action, event));
+        return Reaction::Retry(delay_of(w, action, event));
     }
-    fail_invocation(w, s, code::ATTEMPTS_EXHAUSTED, event.status, true)
+    let code = code::ATTEMPTS_EXHAUSTED;
+    fail_invocation(w, position, invocation, code, event.status, true)
 }
 
 // A result that doesn't apply is stale.
-pub fn on_result(w: &[u32; NUMBERS], s: State, event: Event) -> Move
-    ensures { λ r. ⌜ r ≡ on-result (workflow (now (w .entry))) s event ⌝ }
+pub fn on_result(
+    w: &[u32; NUMBERS],
+    position: Position,
+    invocation: InvocationState,
+    event: Event,
+) -> Reaction
+    ensures { λ r. ⌜ Reacts (workflow (now (w .entry))) event r (At position invocation) on-result ⌝ }
 {
-    let invocation = s.invocation;
     if applies(invocation, event) {
         if event.status == code::SUCCESS {
-            return on_success(w, s, event);
+            return on_success(w, position, invocation, event);
         }
         if event.status == code::FAILURE {
-            return on_failure(w, s, event);
+            return on_failure(w, position, invocation, event);
         }
-        return on_unknown(w, s, event);
+        return on_unknown(w, position, invocation, event);
     }
-    Move {
-        state: s,
-        next: Next::Rest,
+    Reaction::Say {
         note: Note {
             code: code::NOTE_STALE,
             node: named_node(invocation, event),
@@ -229,19 +230,14 @@ pub fn on_result(w: &[u32; NUMBERS], s: State, event: Event) -> Move
             c: event.attempt,
         },
         ending: no_ending(),
-        order: Order::Nothing,
-        read: 0,
     }
 }
 
 // The resolution is noted with the reason why it doesn't apply.
-fn not_applicable(s: State, event: Event, reason: u32) -> Move
-    ensures { λ r. ⌜ r ≡ not-applicable s event reason ⌝ }
+fn not_applicable(invocation: InvocationState, event: Event, reason: u32) -> Reaction
+    ensures { λ r. ⌜ ((sheet : Workflow) (position : Position) → Reacts sheet event r (At position invocation) (λ _ s e. not-applicable s e reason)) ⌝ }
 {
-    let invocation = s.invocation;
-    Move {
-        state: s,
-        next: Next::Rest,
+    Reaction::Say {
         note: Note {
             code: code::NOTE_NOT_APPLICABLE,
             node: named_node(invocation, event),
@@ -250,57 +246,70 @@ fn not_applicable(s: State, event: Event, reason: u32) -> Move
             c: reason,
         },
         ending: no_ending(),
-        order: Order::Nothing,
-        read: 0,
     }
 }
 
 // The outcome must be one that the action declares.
-fn resolve_as_complete(w: &[u32; NUMBERS], s: State, event: Event) -> Move
-    ensures { λ r. ⌜ r ≡ resolve-as-complete (workflow (now (w .entry))) s event ⌝ }
+fn resolve_as_complete(
+    w: &[u32; NUMBERS],
+    position: Position,
+    invocation: InvocationState,
+    event: Event,
+) -> Reaction
+    ensures { λ r. ⌜ Reacts (workflow (now (w .entry))) event r (At position invocation) resolve-as-complete ⌝ }
 {
-    let position = s.position;
     if workflow::declares(w, action_at(w, position.node), event.outcome) {
-        return complete_invocation(w, s, event.outcome, Output::Handle(event.output));
+        return Reaction::Route {
+            outcome: event.outcome,
+            output: Output::Handle(event.output),
+        };
     }
-    not_applicable(s, event, code::UNDECLARED)
+    not_applicable(invocation, event, code::UNDECLARED)
 }
 
 // A stuck run ends as failed with the kept error, even where failed is routed.
-fn resolve_as_fail(w: &[u32; NUMBERS], s: State, event: Event) -> Move
-    ensures { λ r. ⌜ r ≡ resolve-as-fail (workflow (now (w .entry))) (s .invocation .error) s event ⌝ }
+fn resolve_as_fail(
+    w: &[u32; NUMBERS],
+    position: Position,
+    invocation: InvocationState,
+    event: Event,
+) -> Reaction
+    ensures { λ r. ⌜ Reacts (workflow (now (w .entry))) event r (At position invocation) (λ f. resolve-as-fail f (invocation .error)) ⌝ }
 {
-    let invocation = s.invocation;
     let kept = invocation.error;
     match kept {
-        Kept::Error(error) => s.terminate(w, error),
-        Kept::Nothing => fail_invocation(w, s, event.code, event.detail, false),
+        Kept::Error(error) => Reaction::Fail(error),
+        Kept::Nothing => fail_invocation(w, position, invocation, event.code, event.detail, false),
     }
 }
 
 // A resolution applies only to the current visit. An operator's retry is held to no number of attempts, and has delay 0.
-pub fn on_resolved(w: &[u32; NUMBERS], s: State, event: Event) -> Move
-    ensures { λ r. ⌜ r ≡ on-resolved (workflow (now (w .entry))) s event ⌝ }
+pub fn on_resolved(
+    w: &[u32; NUMBERS],
+    position: Position,
+    invocation: InvocationState,
+    event: Event,
+) -> Reaction
+    ensures { λ r. ⌜ Reacts (workflow (now (w .entry))) event r (At position invocation) on-resolved ⌝ }
 {
-    let invocation = s.invocation;
     if named(invocation, event) {
         if invocation.phase == code::SCHEDULED {
-            return not_applicable(s, event, code::NOT_UNKNOWN);
+            return not_applicable(invocation, event, code::NOT_UNKNOWN);
         }
         if event.resolution == code::RESOLVE_COMPLETE {
-            return resolve_as_complete(w, s, event);
+            return resolve_as_complete(w, position, invocation, event);
         }
         if event.resolution == code::RESOLVE_RETRY {
-            return s.retry(w, 0);
+            return Reaction::Retry(0);
         }
-        return resolve_as_fail(w, s, event);
+        return resolve_as_fail(w, position, invocation, event);
     }
-    not_applicable(s, event, code::MISMATCH)
+    not_applicable(invocation, event, code::MISMATCH)
 }
 
 // An ended run only notes the event.
-pub fn on_ended(s: State, event: Event) -> Move
-    ensures { λ r. ⌜ r ≡ on-ended s event ⌝ }
+pub fn on_ended(event: Event) -> Reaction
+    ensures { λ r. ⌜ ((sheet : Workflow) (s : State) → performed sheet s event r ≡ on-ended s event) ⌝ }
 {
     let note = Note {
         code: code::NOTE_IGNORED,
@@ -310,24 +319,16 @@ pub fn on_ended(s: State, event: Event) -> Move
         c: 0,
     };
     if event.kind == code::SIGNAL_RECEIVED {
-        return Move {
-            state: s,
-            next: Next::Rest,
+        return Reaction::Say {
             note: note,
             ending: Ending {
                 sequence: event.sequence,
                 ending: code::END_IGNORED,
             },
-            order: Order::Nothing,
-            read: 0,
         };
     }
-    Move {
-        state: s,
-        next: Next::Rest,
+    Reaction::Say {
         note: note,
         ending: no_ending(),
-        order: Order::Nothing,
-        read: 0,
     }
 }

@@ -1,16 +1,13 @@
-// An invocation that is over, or that fails.
+// An invocation: which events name it, and what its failure comes to.
+use crate::reaction::Reaction;
 use model::ErrorInfo;
 use model::InvocationState;
 use model::Kept;
 use model::Output;
-use model::State;
+use model::Position;
 use model::answer::Note;
-use model::answer::Order;
 use model::code;
 use model::event::Event;
-use model::moves::Move;
-use model::moves::Next;
-use model::moves::no_ending;
 use workflow::Found;
 use workflow::code as sheet;
 use workflow::layout::NUMBERS;
@@ -18,7 +15,8 @@ ghost use mathlib.Core.Path.{_≡_};
 ghost use Rattle.laws.specs.Bool.{_and_};
 ghost use Rattle.workflow.specs.View.{workflow};
 ghost use Rattle.workflow.specs.Lookup.{is-0-2, routed};
-ghost use Rattle.machine.specs.Events.{named, named-node, applies, complete-invocation, stick, fail-invocation};
+ghost use Rattle.machine.specs.Events.{named, named-node, applies, fail-invocation};
+ghost use Rattle.machine.specs.ReactionLaws.{At, Reacts};
 
 // There is an invocation, and its node and visit are those named.
 pub fn named(invocation: InvocationState, event: Event) -> bool
@@ -66,63 +64,40 @@ fn parks(w: &[u32; NUMBERS], may_park: bool) -> bool
     false
 }
 
-// The invocation is over, and its node routes.
-pub fn complete_invocation(w: &[u32; NUMBERS], mut s: State, outcome: u32, output: Output) -> Move
-    ensures { λ r. ⌜ r ≡ complete-invocation (workflow (now (w .entry))) s outcome output ⌝ }
+// A failure follows route failed; without one, format 2 parks a result's failure as stuck, with its error kept, else the run fails.
+pub fn fail_invocation(
+    w: &[u32; NUMBERS],
+    position: Position,
+    invocation: InvocationState,
+    code: u32,
+    detail: u32,
+    may_park: bool,
+) -> Reaction
+    ensures { λ r. ⌜ ((event : Event) → Reacts (workflow (now (w .entry))) event r (At position invocation) (λ f s _. fail-invocation f s code detail «may_park»)) ⌝ }
 {
-    let none = InvocationState::none();
-    s.invocation = none;
-    s.route(w, outcome, output)
-}
-
-// A stuck step keeps its error and waits for a person.
-fn stick(mut s: State, error: ErrorInfo) -> Move
-    ensures { λ r. ⌜ r ≡ stick s error ⌝ }
-{
-    let old = s.invocation;
-    let invocation = InvocationState {
-        phase: code::STUCK,
-        node: old.node,
-        visit: old.visit,
-        action: old.action,
-        attempt: old.attempt,
-        input: old.input,
-        error: Kept::Error(error),
-    };
-    let position = s.position;
-    s.status = code::NEEDS_INTERVENTION;
-    s.invocation = invocation;
-    Move {
-        state: s,
-        next: Next::Rest,
-        note: Note {
-            code: code::NOTE_STUCK,
-            node: position.node,
-            a: old.visit,
-            b: old.attempt,
-            c: error.code,
-        },
-        ending: no_ending(),
-        order: Order::Nothing,
-        read: 0,
-    }
-}
-
-// A failure follows route failed; without one, format 2 parks a result's failure as stuck, else the run fails.
-pub fn fail_invocation(w: &[u32; NUMBERS], s: State, code: u32, detail: u32, may_park: bool) -> Move
-    ensures { λ r. ⌜ r ≡ fail-invocation (workflow (now (w .entry))) s code detail «may_park» ⌝ }
-{
-    let position = s.position;
     let error = ErrorInfo {
         code: code,
         node: position.node,
         detail: detail,
     };
     if is_routed(w, position.node, sheet::FAILED) {
-        return complete_invocation(w, s, sheet::FAILED, Output::Error(error));
+        return Reaction::Route {
+            outcome: sheet::FAILED,
+            output: Output::Error(error),
+        };
     }
     if parks(w, may_park) {
-        return stick(s, error);
+        return Reaction::Park {
+            phase: code::STUCK,
+            error: Kept::Error(error),
+            note: Note {
+                code: code::NOTE_STUCK,
+                node: position.node,
+                a: invocation.visit,
+                b: invocation.attempt,
+                c: error.code,
+            },
+        };
     }
-    s.terminate(w, error)
+    Reaction::Fail(error)
 }

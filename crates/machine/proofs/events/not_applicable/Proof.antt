@@ -1,4 +1,5 @@
 use Rattle.machine.specs.Events.{not-applicable}
+use Rattle.machine.specs.ReactionLaws.{performed}
 use borrow.Author.Needs.{needs}
 use Rattle.machine.proofs.events.not_applicable.Statement.{statement}
 use Rattle.machine.proofs.events.not_applicable.Tie as tie
@@ -10,8 +11,8 @@ no-ending-requires : tie.Need-no-ending-requires
 no-ending-requires c κs = search needs
 
 returns : tie.Need-returns
-unfolding not-applicable
-returns c = simp (← c .before .named-node .ensures, ← c .no-ending .ensures)
+unfolding performed not-applicable
+returns c f p s h = simp (h .invocation-is, ← c .before .named-node .ensures, ← c .no-ending .ensures)
 
 pub not-applicable-spec : {M : Type 1} → statement M
 not-applicable-spec = tie.close (tie.spec named-node-requires no-ending-requires returns)

@@ -1,5 +1,6 @@
 use Rattle.laws.specs.Bool.{if_then_else_}
-use Rattle.machine.specs.Events.{on-failure}
+use Rattle.machine.specs.Events.{may-retry, action-at, on-failure}
+use Rattle.machine.specs.ReactionLaws.{performed}
 use borrow.Author.Needs.{needs}
 use Rattle.machine.proofs.events.on_failure.Statement.{statement}
 use Rattle.machine.proofs.events.on_failure.Tie as tie
@@ -13,26 +14,23 @@ may-retry-failure-requires c κs = search needs
 delay-of-requires : tie.Need-delay-of-requires
 delay-of-requires c κs = search needs
 
-retry-requires : tie.Need-retry-requires
-retry-requires c κs = search needs
-
 returns : tie.Need-returns
-unfolding on-failure if_then_else_
-returns c = simp (← c .before .before .before .before .action-at .ensures, ← c .before .before .before .may-retry-failure .ensures, c .before .before .if1 .taken, ← c .before .delay-of .ensures, ← c .retry .ensures)
+unfolding performed on-failure if_then_else_
+returns c s h = simp (may-retry, action-at, h .position-is, ← c .before .before .before .action-at .ensures, ← c .before .before .may-retry-failure .ensures, c .before .if1 .taken, ← c .delay-of .ensures)
 
 fail-invocation-requires : tie.Need-fail-invocation-requires
 fail-invocation-requires c κs = search needs
 
 returns-2 : tie.Need-returns-2
 unfolding on-failure if_then_else_
-returns-2 c = simp (← c .before .before .before .before .action-at .ensures, ← c .before .before .before .may-retry-failure .ensures, c .before .before .if1 .left, c .before .if2 .taken, ← c .fail-invocation .ensures)
+returns-2 c s h = simp (may-retry, action-at, h .position-is, ← c .before .before .before .before .action-at .ensures, ← c .before .before .before .may-retry-failure .ensures, c .before .before .if1 .left, c .before .if2 .taken, ← c .fail-invocation .ensures (c .before .before .before .before .before .args .event) s h)
 
 fail-invocation-requires-2 : tie.Need-fail-invocation-requires-2
 fail-invocation-requires-2 c κs = search needs
 
 returns-3 : tie.Need-returns-3
 unfolding on-failure if_then_else_
-returns-3 c = simp (← c .before .before .before .before .action-at .ensures, ← c .before .before .before .may-retry-failure .ensures, c .before .before .if1 .left, c .before .if2 .left, ← c .fail-invocation2 .ensures)
+returns-3 c s h = simp (may-retry, action-at, h .position-is, ← c .before .before .before .before .action-at .ensures, ← c .before .before .before .may-retry-failure .ensures, c .before .before .if1 .left, c .before .if2 .left, ← c .fail-invocation2 .ensures (c .before .before .before .before .before .args .event) s h)
 
 pub on-failure-spec : {M : Type 1} → statement M
 on-failure-spec =
@@ -41,7 +39,6 @@ on-failure-spec =
     action-at-requires
     may-retry-failure-requires
     delay-of-requires
-    retry-requires
     returns
     fail-invocation-requires
     returns-2
