@@ -3,18 +3,18 @@ use crate::Decision;
 use crate::Limits;
 use crate::code;
 use machine::events::arrival;
+use model::BufferedSignal;
 use model::State;
 use model::answer::Answer;
 use model::answer::Ending;
 use model::answer::Note;
 use model::answer::Order;
+use model::code as record;
 use model::event::Event;
 use model::event::Mappings;
-use model::moves::Move;
 use model::moves::Next;
 use model::moves::no_ending;
 use model::moves::no_note;
-use workflow::Found;
 use workflow::code::NONE;
 use workflow::layout::NUMBERS;
 ghost use mathlib.Core.Path.{_≡_};
@@ -24,32 +24,18 @@ ghost use Rattle.workflow.specs.View.{workflow};
 ghost use Rattle.kernel.specs.Drive.{operations-of, driven};
 ghost use Rattle.kernel.specs.Call.{wants, refused, orders, finish};
 ghost use Rattle.kernel.specs.Decision.{decision-of};
-ghost use Rattle.kernel.specs.DriveLaws.{consumes, upcoming, advances, decide, rest-answer, answer-of, at-end, Begins};
+ghost use Rattle.kernel.specs.DriveLaws.{takes, entries, round-of, is-over, decide, rest-answer, answer-of, at-end, Begins};
 
-// A move that is counted.
-enum Microstep {
-    // a node is entered, from the node come from
-    Enter { node: u32, from: u32 },
-    // the signal that arrived is taken
-    Take,
-    // the signal stored at a place is taken
-    Consume(u32),
-}
-
-// Why no move follows.
-enum Stop {
-    // the moves are over, with the order of the last one
-    Rest(Order),
-    // a mapping value is lacking
-    Wants { node: u32, field: u32, from: u32 },
-    // the call is refused
-    Refuse(u32),
-}
-
-// What follows a move.
-enum Following {
-    Step(Microstep),
-    Stop(Stop),
+// What a signal that is taken and the entry that follows make of a call: the record and what comes next, what was said, and how
+// many microsteps these were.
+struct Round {
+    state: State,
+    next: Next,
+    note: Note,
+    ending: Ending,
+    order: Order,
+    read: u32,
+    microsteps: u32,
 }
 
 // The operations of the mapping answers that were read.
@@ -68,51 +54,77 @@ fn operations_of(mappings: Mappings, read: u32) -> u64
     (first.operations as u64) + (second.operations as u64)
 }
 
-// The stored signal at the place that was found is taken; with none the run goes on waiting.
-fn consumes(found: Found) -> Following
-    ensures { λ r. ⌜ r ≡ consumes found ⌝ }
+// A signal that ended was taken.
+fn takes(ending: u32) -> u32
+    ensures { λ r. ⌜ r ≡ takes ending ⌝ }
 {
-    match found {
-        Found::At(place) => Following::Step(Microstep::Consume(place)),
-        Found::Nothing => Following::Stop(Stop::Rest(Order::Nothing)),
+    if ending == 0 {
+        return 0;
     }
+    1
 }
 
-fn upcoming(w: &[u32; NUMBERS], state: State, next: Next, order: Order) -> Following
-    ensures { λ r. ⌜ r ≡ upcoming (workflow (now (w .entry))) state next order ⌝ }
+fn entries(next: Next) -> u32
+    ensures { λ r. ⌜ r ≡ entries next ⌝ }
 {
     match next {
-        Next::Rest => Following::Stop(Stop::Rest(order)),
-        Next::Enter { node, from } => Following::Step(Microstep::Enter { node, from }),
-        Next::Take => Following::Step(Microstep::Take),
-        Next::Consume => {
-            let position = state.position;
-            let row = workflow::node_of(w, position.node);
-            consumes(state.first_signal(row.signal))
-        }
-        Next::Wants { node, field, from } => Following::Stop(Stop::Wants { node, field, from }),
-        Next::Refuse(number) => Following::Stop(Stop::Refuse(number)),
+        Next::Rest => 0,
+        Next::Enter { node: _, from: _ } => 1,
+        Next::Take => 0,
+        Next::Consume => 0,
+        Next::Wants {
+            node: _,
+            field: _,
+            from: _,
+        } => 0,
+        Next::Refuse(_) => 0,
     }
 }
 
-// The move of a microstep.
-fn advance(
+// A signal is taken where one is to be, and the node that is then to be entered is.
+fn take_and_enter(
     w: &[u32; NUMBERS],
     state: State,
-    step: Microstep,
-    event: Event,
+    next: Next,
+    arrived: BufferedSignal,
     mappings: Mappings,
-) -> Move
-    ensures { λ r. ⌜ r ≡ advances (workflow (now (w .entry))) event mappings state step ⌝ }
+) -> Round
+    ensures { λ r. ⌜ r ≡ round-of (workflow (now (w .entry))) state next arrived mappings ⌝ }
 {
-    match step {
-        Microstep::Enter { node, from } => state.enter(w, node, from, mappings),
-        Microstep::Take => state.take(w, arrival(event), Next::Rest),
-        Microstep::Consume(place) => {
-            let signal = state.signal_at(place);
-            let left = state.remove_signal(place);
-            left.take(w, signal, Next::Consume)
-        }
+    let t = state.take(w, next, arrived);
+    let to = t.next;
+    let note = t.note;
+    let ending = t.ending;
+    let e = t.state.enter(w, to, mappings);
+    let left = e.state;
+    let after = e.next;
+    let order = e.order;
+    Round {
+        state: left,
+        next: after,
+        note: note,
+        ending: ending,
+        order: order,
+        read: e.read,
+        microsteps: takes(ending.ending) + entries(to),
+    }
+}
+
+// No move follows: nothing comes next, or the store is to be consumed and is empty.
+fn is_over(next: Next, stored: u32) -> bool
+    ensures { λ r. ⌜ r ≡ is-over next stored ⌝ }
+{
+    match next {
+        Next::Rest => true,
+        Next::Enter { node: _, from: _ } => false,
+        Next::Take => false,
+        Next::Consume => stored == 0,
+        Next::Wants {
+            node: _,
+            field: _,
+            from: _,
+        } => true,
+        Next::Refuse(_) => true,
     }
 }
 
@@ -145,14 +157,23 @@ fn rest_answer(order: Order, limits: Limits, microsteps: u32, operations: u64) -
     Answer::Next { order, microsteps }
 }
 
-// The answer where nothing follows.
-fn answer_of(stop: Stop, limits: Limits, microsteps: u32, operations: u64) -> Answer
-    ensures { λ r. ⌜ r ≡ answer-of stop limits microsteps operations ⌝ }
+// The answer where no move follows.
+fn answer_of(next: Next, order: Order, limits: Limits, microsteps: u32, operations: u64) -> Answer
+    ensures { λ r. ⌜ r ≡ answer-of next order limits microsteps operations ⌝ }
 {
-    match stop {
-        Stop::Rest(order) => rest_answer(order, limits, microsteps, operations),
-        Stop::Wants { node, field, from } => Answer::Wants { node, field, from },
-        Stop::Refuse(number) => Answer::Refused { number, item: NONE },
+    match next {
+        Next::Rest => rest_answer(order, limits, microsteps, operations),
+        Next::Enter { node: _, from: _ } => Answer::Refused {
+            number: record::INVARIANT,
+            item: NONE,
+        },
+        Next::Take => Answer::Refused {
+            number: record::INVARIANT,
+            item: NONE,
+        },
+        Next::Consume => rest_answer(Order::Nothing, limits, microsteps, operations),
+        Next::Wants { node, field, from } => Answer::Wants { node, field, from },
+        Next::Refuse(number) => Answer::Refused { number, item: NONE },
     }
 }
 
@@ -209,10 +230,10 @@ fn decide(
     }
 }
 
-// What a move says is listed, and the next is made, until none follows. Each is counted against the limit before it is made.
+// What a round says is listed, and the next is made, until none follows. Its microsteps are counted against the limit first.
 fn run(
     w: &[u32; NUMBERS],
-    mut v: Move,
+    mut v: Round,
     limits: Limits,
     event: Event,
     mappings: Mappings,
@@ -227,6 +248,10 @@ fn run(
     let mut operations: u64 = 0;
     let mut microsteps: u32 = 0;
     loop {
+        microsteps += v.microsteps;
+        if limits.microsteps < microsteps {
+            return refusal(code::MICROSTEPS_EXCEEDED, NONE);
+        }
         let note = v.note;
         if 0 < note.code {
             notes[note_count as usize] = note;
@@ -239,21 +264,12 @@ fn run(
         }
         operations += operations_of(mappings, v.read);
         let next = v.next;
-        let order = v.order;
-        let follows = upcoming(w, v.state, next, order);
-        match follows {
-            Following::Stop(stop) => {
-                let answer = answer_of(stop, limits, microsteps, operations);
-                return decide(notes, endings, note_count, ending_count, answer, v.state);
-            }
-            Following::Step(step) => {
-                if limits.microsteps <= microsteps {
-                    return refusal(code::MICROSTEPS_EXCEEDED, NONE);
-                }
-                v = advance(w, v.state, step, event, mappings);
-                microsteps += 1;
-            }
+        if is_over(next, v.state.signal_count) {
+            let order = v.order;
+            let answer = answer_of(next, order, limits, microsteps, operations);
+            return decide(notes, endings, note_count, ending_count, answer, v.state);
         }
+        v = take_and_enter(w, v.state, next, arrival(event), mappings);
     }
 }
 
@@ -268,6 +284,20 @@ pub fn drive(
     requires { ⌜ s .«signal_count» ≤ 64 ⌝ }
     ensures { λ r. ⌜ r ≡ decision-of (finish limits (driven (workflow (now (w .entry))) (limits .microsteps) event mappings s)) ⌝ }
 {
-    let v = machine::apply(w, s, event);
+    let a = machine::apply(w, s, event);
+    let state = a.state;
+    let next = a.next;
+    let note = a.note;
+    let ending = a.ending;
+    let order = a.order;
+    let v = Round {
+        state: state,
+        next: next,
+        note: note,
+        ending: ending,
+        order: order,
+        read: a.read,
+        microsteps: 0,
+    };
     run(w, v, limits, event, mappings)
 }

@@ -102,7 +102,7 @@ pub fn admit(w: &[u32; NUMBERS], has_record: bool, s: State, c: Call) -> Verdict
 
 // One call: the record that comes next with its order, notes and endings; a want; or a refusal. Where there is no record,
 // s is not looked at.
-pub fn transition(w: &[u32; NUMBERS], has_record: bool, s: State, c: Call) -> Decision
+pub fn transition(w: &[u32; NUMBERS], has_record: bool, mut s: State, c: Call) -> Decision
     ensures { λ r. ⌜ r ≡ decision-of (transition (workflow (now (w .entry))) (given-record «has_record» s) c) ⌝ }
 {
     let verdict = admit(w, has_record, s, c);
@@ -112,8 +112,8 @@ pub fn transition(w: &[u32; NUMBERS], has_record: bool, s: State, c: Call) -> De
     let limits = c.limits;
     let event = c.event;
     let mappings = c.mappings;
-    if has_record {
-        return drive::drive(w, s, limits, event, mappings);
+    if !has_record {
+        s = State::fresh(event.input);
     }
-    drive::drive(w, State::fresh(event.input), limits, event, mappings)
+    drive::drive(w, s, limits, event, mappings)
 }

@@ -1,44 +1,12 @@
-// The stored signals: the first `signal_count` of the array, oldest first. Only this file knows where they sit.
+// The stored signals: the first `signal_count` of the array, oldest first. Only this file and `take` know where they sit.
 use crate::BufferedSignal;
 use crate::State;
 use crate::code;
-use workflow::Found;
 ghost use mathlib.Core.Path.{_≡_};
-ghost use Prim.Native.Nat.{_<_};
-ghost use Rattle.laws.specs.Shift.{without};
-ghost use Rattle.model.specs.Code.{store};
-ghost use Rattle.model.specs.Record.{no-signal};
 ghost use Rattle.model.specs.StoreLaws.{signal-fits};
-ghost use Rattle.model.specs.Store.{first-signal, signal-at, appended, removed, store-fits};
+ghost use Rattle.model.specs.Store.{appended, store-fits};
 
 impl State {
-    // The place of the oldest stored signal of a name.
-    pub fn first_signal(self, signal: u32) -> Found
-        ensures { λ r. ⌜ r ≡ first-signal self signal ⌝ }
-    {
-        let n = workflow::capped(self.signal_count, code::STORE);
-        let mut i: usize = 0;
-        while i < n {
-            let x = self.signals[i];
-            if x.signal == signal {
-                return Found::At(i as u32);
-            }
-            i += 1;
-        }
-        Found::Nothing
-    }
-
-    // The signal stored at a place.
-    pub fn signal_at(self, place: u32) -> BufferedSignal
-        ensures { λ r. ⌜ r ≡ signal-at self place ⌝ }
-    {
-        let n = place as usize;
-        if n < workflow::capped(self.signal_count, code::STORE) {
-            return self.signals[n];
-        }
-        BufferedSignal::none()
-    }
-
     // The signal is stored behind the others; a full store stays as it is.
     pub fn append_signal(mut self, signal: BufferedSignal) -> State
         ensures { λ r. ⌜ r ≡ appended self signal ⌝ }
@@ -69,41 +37,6 @@ impl State {
         }
         true
     }
-
-    // The signal stored at a place goes, and the later ones move down.
-    pub fn remove_signal(mut self, place: u32) -> State
-        ensures { λ r. ⌜ r ≡ removed self place ⌝ }
-    {
-        let n = place as usize;
-        if workflow::capped(self.signal_count, code::STORE) <= n {
-            return self;
-        }
-        let old = self.signals;
-        let rest = shifted(old, n);
-        self.signals = rest;
-        self.signal_count = self.signal_count - 1;
-        self
-    }
-}
-
-// The last place of the store.
-const LAST: usize = code::STORE - 1;
-
-fn shifted(
-    mut signals: [BufferedSignal; code::STORE],
-    start: usize,
-) -> [BufferedSignal; code::STORE]
-    requires { ⌜ start < store ⌝ }
-    ensures { λ r. ⌜ r ≡ without no-signal signals start ⌝ }
-{
-    let mut k = start;
-    while k < LAST {
-        let x = signals[k + 1];
-        signals[k] = x;
-        k += 1;
-    }
-    signals[LAST] = BufferedSignal::none();
-    signals
 }
 
 // A stored signal, or an unused slot of the store, which is all zero.

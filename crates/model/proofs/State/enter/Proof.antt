@@ -1,142 +1,108 @@
-use borrow.Author.Tests.{le-leb}
+use native.Mathlib.Omega.{arith}
+use mathlib.Core.Path.{_≡_, refl, sym, _∙_}
+use mathlib.Core.Logic.{⊎-elim}
+use lib.ListN.{length}
+use Rattle.laws.specs.Bool.{if-true, if-false}
+use Rattle.laws.specs.Arrays.{length-field}
 use Rattle.workflow.specs.View.{workflow}
-use Rattle.laws.specs.Bool.{if_then_else_}
-use Rattle.model.specs.Step.{enter}
-use Rattle.model.specs.EnterLaws.{exceeds-visits, exceeds-activations, enters-activity, enters-await, enters-complete, enters-fail}
+use Rattle.model.specs.declared.State.{State}
+use Rattle.model.specs.EnterLaws.{Uncounted, Room, destination, visits-there, visits-past, counted-one, counted-none, stores}
 use borrow.Author.Needs.{needs}
 use Rattle.model.proofs.State.enter.Statement.{statement}
 use Rattle.model.proofs.State.enter.Tie as tie
 
-element-copy-out-capped : tie.Need-element-copy-out-capped
-element-copy-out-capped c = search needs
+-- The record shows what was read of it.
+module _ (c : tie.Joined1) where
+  abbrev start : tie.Start
+  start = c .before .before
 
-capped-requires : tie.Need-capped-requires
-capped-requires c κs = search needs
+  abbrev self : State
+  self = start .args .t1
 
-still-requires : tie.Need-still-requires
-still-requires c κs = search needs
+  given : Uncounted self (destination (start .args .next)) (c .if1 .count) (self .activations) (self .«last_accepted_at»)
+  given =
+      let long : length (self .visits) ≡ 64 = search (needs, length-field) in
+      record {
+        shows = record {
+          visits-are =
+              ⊎-elim
+              (λ w. visits-there self (c .before .destination .ensures) (w .1))
+              (λ w. visits-past self (c .before .destination .ensures) long (w .0 .left) (w .1))
+              (c .if1 .came);
+          last-is = refl;
+        };
+        activations-are = refl;
+        slots = long;
+      }
 
-returns : tie.Need-returns
-unfolding enter if_then_else_
-returns c = simp (← c .before .before .capped .ensures, le-leb _ _ (c .before .if1 .taken), ← c .still .ensures)
+room : (c : tie.Then2) → Room (workflow (start (c .before .before) .args .w .now)) (destination (start (c .before .before) .args .next)) (c .before .before .if1 .count) (self (c .before .before) .activations)
+room c = c .before .entry-by .ensures .1 (c .if2 .taken)
 
-mul-visits : tie.Need-mul-visits
-mul-visits c = search needs
+destination-requires : tie.Need-destination-requires
+destination-requires c κs = search needs
 
-element-copy-out-visits : tie.Need-element-copy-out-visits
-element-copy-out-visits c = search needs
+cast-n : tie.Need-cast-n
+cast-n c = search needs
 
-element-copy-out-if2 : tie.Need-element-copy-out-if2
-element-copy-out-if2 c = search needs
+mul-count : tie.Need-mul-count
+mul-count c = search needs
 
-terminate-requires : tie.Need-terminate-requires
-terminate-requires c κs = search needs
+element-copy-out-count : tie.Need-element-copy-out-count
+element-copy-out-count c = search needs
 
-returns-2 : tie.Need-returns-2
-returns-2 c =
-    let a = c .before .before .before .before .before .before .args in
-    exceeds-visits (workflow (a .w .now)) (a .t1) (a .node) (a .from) (a .mappings) (c .before .before .before .before .capped .ensures) (c .before .before .before .if1 .left) (c .before .if2 .taken) (c .terminate .ensures)
-
-element-copy-out-if3 : tie.Need-element-copy-out-if3
-element-copy-out-if3 c = search needs
-
-terminate-requires-2 : tie.Need-terminate-requires-2
-terminate-requires-2 c κs = search needs
-
-returns-3 : tie.Need-returns-3
-returns-3 c =
-    let a = c .before .before .before .before .before .before .before .before .args in
-    exceeds-activations (workflow (a .w .now)) (a .t1) (a .node) (a .from) (a .mappings) (c .before .before .before .before .before .before .capped .ensures) (c .before .before .before .before .before .if1 .left) (c .before .before .before .if2 .left) (c .before .if3 .taken) (c .terminate2 .ensures)
+entry-by-requires : tie.Need-entry-by-requires
+entry-by-requires c κs = search needs
 
 element-copy-out-one-more : tie.Need-element-copy-out-one-more
 element-copy-out-one-more c = search needs
 
 one-more-requires : tie.Need-one-more-requires
-one-more-requires c κs = search needs
+one-more-requires c κs = room (c .before) .visit
 
 element-copy-out-one-more-2 : tie.Need-element-copy-out-one-more-2
 element-copy-out-one-more-2 c = search needs
 
 one-more-requires-2 : tie.Need-one-more-requires-2
-one-more-requires-2 c κs = search needs
+one-more-requires-2 c κs = room (c .before .before .before) .activation
 
-mul-t15 : tie.Need-mul-t15
-mul-t15 c = search needs
+mul-t31 : tie.Need-mul-t31
+mul-t31 c = search needs
 
 element-set-from-self : tie.Need-element-set-from-self
-element-set-from-self c = search needs
+element-set-from-self c = omega (arith, room (c .before .before .before .before) .slot, c .before .before .before .before .before .before .before .destination .ensures)
 
-node-of-requires : tie.Need-node-of-requires
-node-of-requires c κs = search needs
+no-note-requires : tie.Need-no-note-requires
+no-note-requires c κs = search needs
 
-enter-activity-requires : tie.Need-enter-activity-requires
-enter-activity-requires c κs = search needs
+no-ending-requires : tie.Need-no-ending-requires
+no-ending-requires c κs = search needs
 
-returns-4 : tie.Need-returns-4
-returns-4 c =
-    let e = c .before .before .before in
-    let a = e .before .before .before .before .before .before .before .before .before .before .before .before .args in
-    enters-activity (workflow (a .w .now)) (a .t1) (a .node) (a .from) (a .mappings) (e .before .before .before .before .before .before .before .before .before .before .capped .ensures) (e .before .before .before .before .before .before .before .before .before .if1 .left) (e .before .before .before .before .before .before .before .if2 .left) (e .before .before .before .before .before .if3 .left) (e .before .before .before .one-more .ensures) (e .before .one-more2 .ensures) (e .node-of .ensures)
-    (c .before .if4 .taken) (c .enter-activity .ensures)
-
-enter-await-requires : tie.Need-enter-await-requires
-enter-await-requires c κs = search needs
-
-returns-5 : tie.Need-returns-5
-returns-5 c =
-    let e = c .before .before .before .before .before in
-    let a = e .before .before .before .before .before .before .before .before .before .before .before .before .args in
-    enters-await (workflow (a .w .now)) (a .t1) (a .node) (a .from) (a .mappings) (e .before .before .before .before .before .before .before .before .before .before .capped .ensures) (e .before .before .before .before .before .before .before .before .before .if1 .left) (e .before .before .before .before .before .before .before .if2 .left) (e .before .before .before .before .before .if3 .left) (e .before .before .before .one-more .ensures) (e .before .one-more2 .ensures) (e .node-of .ensures)
-    (c .before .if5 .taken) (c .enter-await .ensures)
-
-enter-complete-requires : tie.Need-enter-complete-requires
-enter-complete-requires c κs = search needs
-
-returns-6 : tie.Need-returns-6
-returns-6 c =
-    let e = c .before .before .before .before .before .before .before in
-    let a = e .before .before .before .before .before .before .before .before .before .before .before .before .args in
-    enters-complete (workflow (a .w .now)) (a .t1) (a .node) (a .from) (a .mappings) (e .before .before .before .before .before .before .before .before .before .before .capped .ensures) (e .before .before .before .before .before .before .before .before .before .if1 .left) (e .before .before .before .before .before .before .before .if2 .left) (e .before .before .before .before .before .if3 .left) (e .before .before .before .one-more .ensures) (e .before .one-more2 .ensures) (e .node-of .ensures)
-    (c .before .if6 .taken) (c .enter-complete .ensures)
-
-terminate-requires-3 : tie.Need-terminate-requires-3
-terminate-requires-3 c κs = search needs
-
-returns-7 : tie.Need-returns-7
-returns-7 c =
-    let e = c .before .before .before .before .before .before .before in
-    let a = e .before .before .before .before .before .before .before .before .before .before .before .before .args in
-    enters-fail (workflow (a .w .now)) (a .t1) (a .node) (a .from) (a .mappings) (e .before .before .before .before .before .before .before .before .before .before .capped .ensures) (e .before .before .before .before .before .before .before .before .before .if1 .left) (e .before .before .before .before .before .before .before .if2 .left) (e .before .before .before .before .before .if3 .left) (e .before .before .before .one-more .ensures) (e .before .one-more2 .ensures) (e .node-of .ensures)
-    (c .before .before .before .before .before .if4 .left) (c .before .before .before .if5 .left) (c .before .if6 .left) (c .terminate3 .ensures)
+returns : tie.Need-returns
+returns c =
+    let e = c .before .before .before .before .before .entry-by .result in
+    let k = given (c .before .before .before .before .before .before) in
+    stores _ _ e
+    (⊎-elim (λ w. counted-one e k (w .0 .taken) (c .before .before .before .before .before .before .before .destination .ensures) (w .2 .ensures) (w .4 .ensures) (w .5)) (λ w. counted-none e k (w .0 .left) (w .1)) (c .before .before .before .before .if2 .came))
+    (⊎-elim (λ w. w .3 ∙ sym (if-true _ _ _ (w .0 .taken))) (λ w. w .1 ∙ sym (if-false _ _ _ (w .0 .left))) (c .before .before .before .if3 .came))
+    (⊎-elim (λ w. w .1 ∙ sym (if-true _ _ _ (w .0 .taken))) (λ w. w .1 ∙ sym (if-false _ _ _ (w .0 .left))) (c .before .before .if4 .came))
+    (c .before .no-note .ensures) (c .no-ending .ensures) ∙
+    c .before .before .before .before .before .entry-by .ensures .0 _ k
 
 pub enter-spec : {M : Type 1} → statement M
 enter-spec =
     tie.close
     (tie.spec
-    element-copy-out-capped
-    capped-requires
-    still-requires
-    returns
-    mul-visits
-    element-copy-out-visits
-    element-copy-out-if2
-    terminate-requires
-    returns-2
-    element-copy-out-if3
-    terminate-requires-2
-    returns-3
+    destination-requires
+    cast-n
+    mul-count
+    element-copy-out-count
+    entry-by-requires
     element-copy-out-one-more
     one-more-requires
     element-copy-out-one-more-2
     one-more-requires-2
-    mul-t15
+    mul-t31
     element-set-from-self
-    node-of-requires
-    enter-activity-requires
-    returns-4
-    enter-await-requires
-    returns-5
-    enter-complete-requires
-    returns-6
-    terminate-requires-3
-    returns-7)
+    no-note-requires
+    no-ending-requires
+    returns)
