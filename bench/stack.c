@@ -15,7 +15,8 @@ static void *nothing(void *unused)
 
 static void *transition(void *unused)
 {
-    kuxhoveza_transition(sheet, call, record, answer, KUXHOVEZA_ANSWER);
+    kuxhoveza_transition(sheet, KUXHOVEZA_SHEET, call, KUXHOVEZA_CALL, record, KUXHOVEZA_RECORD, answer,
+                         KUXHOVEZA_ANSWER);
     return unused;
 }
 

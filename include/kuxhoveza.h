@@ -1,6 +1,7 @@
 /* Kuxhoveza for hosts. docs/NUMBERS.md says what the numbers mean; every offset counts numbers, not bytes.
  *
- * The functions keep nothing between calls, need no initialisation and may be called from several threads at once. */
+ * The functions keep nothing between calls, need no initialisation and may be called from several threads at once. A host
+ * first compares kuxhoveza_layout_version() with KUXHOVEZA_LAYOUT_VERSION. */
 #ifndef KUXHOVEZA_H
 #define KUXHOVEZA_H
 
@@ -214,10 +215,22 @@ extern "C" {
 #define KUXHOVEZA_WANT 2
 #define KUXHOVEZA_REFUSAL 3
 
-/* One call: writes the answer into the first KUXHOVEZA_ANSWER numbers of the buffer and returns KUXHOVEZA_WRITTEN.
- * Or returns why not, and leaves the buffer as it was: it is shorter than that; the call has a number that its field
- * can't hold; the record has one. The record counts only where number KUXHOVEZA_CALL_HAS_RECORD of the call is
- * 1, and must be lent all the same. The buffer must not overlap the other arrays.
+/* The layout's version of the library that is linked. A host compares it with KUXHOVEZA_LAYOUT_VERSION, that of the header
+ * it was built with, before its first call. Where they differ it makes no call: its numbers would stand elsewhere or
+ * mean something else. Arrays of a layout with other lengths are refused by their lengths besides. */
+uint32_t kuxhoveza_layout_version(void);
+
+/* One call: writes the answer into the first KUXHOVEZA_ANSWER numbers of the buffer and returns KUXHOVEZA_WRITTEN. Or
+ * returns why not, the first of these that holds, and writes nothing:
+ *   KUXHOVEZA_BAD_SHEET_LENGTH    sheet_len is not KUXHOVEZA_SHEET
+ *   KUXHOVEZA_BAD_CALL_LENGTH     call_len is not KUXHOVEZA_CALL
+ *   KUXHOVEZA_BAD_RECORD_LENGTH   record_len is not KUXHOVEZA_RECORD
+ *   KUXHOVEZA_SHORT_BUFFER        answer_len is less than KUXHOVEZA_ANSWER
+ *   KUXHOVEZA_BAD_CALL            the call has a number that its field can't hold
+ *   KUXHOVEZA_BAD_RECORD          the record has one, and number KUXHOVEZA_CALL_HAS_RECORD of the call is 1
+ * The lengths are tested before any number is read, and nothing is read or written outside them: each must be that of
+ * its array. Numbers of the buffer behind the answer stay as they were. The record is lent also where the call
+ * goes without one, of any numbers then. The buffer must not overlap the other arrays.
  *
  * What a field holds. A call's numbers are held to this also where its kind of event or its count of mapping answers
  * doesn't read them, a record's also behind the count of its stored signals (docs/NUMBERS.md has it as a table):
@@ -233,13 +246,17 @@ extern "C" {
  * KUXHOVEZA_WANT is for the evaluation of the wanted value alone, and must never be kept: a later call would take it, and a
  * signal would be lost or an entry counted twice. A want is answered by the same call, with the same sequence, on the
  * same record (or none) as before, with the value added to its mapping answers. */
-uint32_t kuxhoveza_transition(const uint32_t sheet[KUXHOVEZA_SHEET], const uint64_t call[KUXHOVEZA_CALL],
-                              const uint64_t record[KUXHOVEZA_RECORD], uint64_t *answer, size_t answer_len);
+uint32_t kuxhoveza_transition(const uint32_t *sheet, size_t sheet_len, const uint64_t *call, size_t call_len,
+                              const uint64_t *record, size_t record_len, uint64_t *answer, size_t answer_len);
 
-/* The verdict on a sheet alone, under four ceilings: 0 where it is accepted, else 256 times the refusal's number and its
- * item (a node, an action, or KUXHOVEZA_NONE). */
-uint64_t kuxhoveza_verdict(const uint32_t sheet[KUXHOVEZA_SHEET], uint32_t nodes, uint32_t visits,
-                           uint32_t activations, uint32_t attempts);
+/* The verdict on a sheet alone, under four ceilings: writes the refusal's number and its item (a node, an action, or
+ * KUXHOVEZA_NONE) as numbers KUXHOVEZA_VERDICT_NUMBER and KUXHOVEZA_VERDICT_ITEM of the buffer, 0 and 0 where the sheet is
+ * accepted, and returns KUXHOVEZA_WRITTEN. Or returns why not, the first of these that holds, and writes nothing:
+ *   KUXHOVEZA_BAD_SHEET_LENGTH    sheet_len is not KUXHOVEZA_SHEET
+ *   KUXHOVEZA_SHORT_BUFFER        verdict_len is less than KUXHOVEZA_VERDICT
+ * For lengths and buffer holds what is said above. */
+uint32_t kuxhoveza_verdict(const uint32_t *sheet, size_t sheet_len, uint32_t nodes, uint32_t visits,
+                           uint32_t activations, uint32_t attempts, uint32_t *verdict, size_t verdict_len);
 
 #ifdef __cplusplus
 }

@@ -1,7 +1,12 @@
-/* A start on the sheet of Joint A (document 01), through the header: node 0 is scheduled. */
+/* Calls through the header, on the sheet of Joint A (document 01): a start, by which node 0 is scheduled; what is
+ * returned for wrong numbers and lengths; and arrays beside memory that may not be touched. C11 and C++. */
+#define _DEFAULT_SOURCE
 #include "joint_a.h"
 
 #include <stdio.h>
+#include <stdlib.h>
+#include <sys/mman.h>
+#include <unistd.h>
 
 static uint64_t untouched[KUXHOVEZA_ANSWER];
 static int failures;
@@ -16,17 +21,12 @@ static void is(const char *what, uint64_t found, uint64_t expected)
 
 static uint32_t transition(size_t length)
 {
-    return kuxhoveza_transition(sheet, call, record, answer, length);
+    return kuxhoveza_transition(sheet, KUXHOVEZA_SHEET, call, KUXHOVEZA_CALL, record, KUXHOVEZA_RECORD, answer, length);
 }
 
-int main(void)
+static void numbers(void)
 {
-    joint_a();
-    call_with(1, 1);
-    call[KUXHOVEZA_CALL_INPUT] = 42;
     memset(answer, 0xff, sizeof answer);
-    memset(untouched, 0xff, sizeof untouched);
-
     is("a short buffer", transition(KUXHOVEZA_ANSWER - 1), KUXHOVEZA_SHORT_BUFFER);
     call[KUXHOVEZA_CALL_HAS_RECORD] = 2;
     is("a mark of 2", transition(KUXHOVEZA_ANSWER), KUXHOVEZA_BAD_CALL);
@@ -40,21 +40,157 @@ int main(void)
     is("a code of 65536 in a start", transition(KUXHOVEZA_ANSWER), KUXHOVEZA_BAD_CALL);
     call[KUXHOVEZA_CALL_ERROR_CODE] = 65535;
     is("the untouched buffer", memcmp(answer, untouched, sizeof answer) == 0, 1);
-
     call[KUXHOVEZA_CALL_HAS_RECORD] = 0;
-    is("a start", transition(KUXHOVEZA_ANSWER), KUXHOVEZA_WRITTEN);
-    is("the kind", answer[KUXHOVEZA_ANSWER_KIND], KUXHOVEZA_NEXT);
-    is("the microsteps", answer[KUXHOVEZA_ANSWER_MICROSTEPS], 1);
-    is("the order", answer[KUXHOVEZA_ANSWER_ORDER], 1);
-    is("the order's node", answer[KUXHOVEZA_ANSWER_ORDER_NODE], 0);
-    is("the order's visit", answer[KUXHOVEZA_ANSWER_ORDER_VISIT], 1);
-    is("the order's attempt", answer[KUXHOVEZA_ANSWER_ORDER_ATTEMPT], 1);
-    is("the order's input", answer[KUXHOVEZA_ANSWER_ORDER_INPUT], 501);
-    is("the record's input", answer[KUXHOVEZA_ANSWER_RECORD + KUXHOVEZA_RECORD_INPUT], 42);
-    is("the record's phase", answer[KUXHOVEZA_ANSWER_RECORD + KUXHOVEZA_RECORD_PHASE], 1);
+}
 
-    is("the verdict", kuxhoveza_verdict(sheet, 64, 64, 64, 64), 0);
+/* The answer to the start. */
+static void scheduled(const uint64_t *numbers)
+{
+    is("the kind", numbers[KUXHOVEZA_ANSWER_KIND], KUXHOVEZA_NEXT);
+    is("the microsteps", numbers[KUXHOVEZA_ANSWER_MICROSTEPS], 1);
+    is("the order", numbers[KUXHOVEZA_ANSWER_ORDER], 1);
+    is("the order's node", numbers[KUXHOVEZA_ANSWER_ORDER_NODE], 0);
+    is("the order's visit", numbers[KUXHOVEZA_ANSWER_ORDER_VISIT], 1);
+    is("the order's attempt", numbers[KUXHOVEZA_ANSWER_ORDER_ATTEMPT], 1);
+    is("the order's input", numbers[KUXHOVEZA_ANSWER_ORDER_INPUT], 501);
+    is("the record's input", numbers[KUXHOVEZA_ANSWER_RECORD + KUXHOVEZA_RECORD_INPUT], 42);
+    is("the record's phase", numbers[KUXHOVEZA_ANSWER_RECORD + KUXHOVEZA_RECORD_PHASE], 1);
+}
+
+static void verdicts(void)
+{
+    uint32_t verdict[KUXHOVEZA_VERDICT + 1] = {7, 7, 7};
+    is("a short verdict", kuxhoveza_verdict(sheet, KUXHOVEZA_SHEET, 64, 64, 64, 64, verdict, KUXHOVEZA_VERDICT - 1),
+       KUXHOVEZA_SHORT_BUFFER);
+    is("the untouched verdict", verdict[KUXHOVEZA_VERDICT_NUMBER], 7);
+    is("a verdict", kuxhoveza_verdict(sheet, KUXHOVEZA_SHEET, 64, 64, 64, 64, verdict, KUXHOVEZA_VERDICT + 1),
+       KUXHOVEZA_WRITTEN);
+    is("the verdict's number", verdict[KUXHOVEZA_VERDICT_NUMBER], 0);
+    is("the verdict's item", verdict[KUXHOVEZA_VERDICT_ITEM], 0);
     sheet[KUXHOVEZA_SHEET_LIMIT_LIMIT] = 3;
-    is("the verdict at limit 3", kuxhoveza_verdict(sheet, 64, 64, 64, 64), 12 * 256 + 1);
+    is("a verdict at limit 3", kuxhoveza_verdict(sheet, KUXHOVEZA_SHEET, 64, 64, 64, 64, verdict, KUXHOVEZA_VERDICT),
+       KUXHOVEZA_WRITTEN);
+    sheet[KUXHOVEZA_SHEET_LIMIT_LIMIT] = 1;
+    is("the number at limit 3", verdict[KUXHOVEZA_VERDICT_NUMBER], 12);
+    is("the item at limit 3", verdict[KUXHOVEZA_VERDICT_ITEM], 1);
+    is("behind the verdict", verdict[KUXHOVEZA_VERDICT], 7);
+}
+
+/* Pages between two that may not be touched; none at all where there is nothing to hold. */
+struct fenced {
+    unsigned char *end;
+    size_t bytes;
+};
+
+#define ROOM (1 << 16)
+
+static struct fenced fence(int open)
+{
+    struct fenced all;
+    size_t page = (size_t)sysconf(_SC_PAGESIZE);
+    unsigned char *at = (unsigned char *)mmap(NULL, ROOM + 2 * page, PROT_NONE, MAP_PRIVATE | MAP_ANONYMOUS, -1, 0);
+    if (at == (unsigned char *)MAP_FAILED || (open && mprotect(at + page, ROOM, PROT_READ | PROT_WRITE) != 0)) {
+        printf("no fenced memory\n");
+        exit(1);
+    }
+    all.end = at + page + ROOM;
+    all.bytes = open ? ROOM : 0;
+    return all;
+}
+
+/* So many numbers that end where memory does: those given, zeros behind them. */
+static uint32_t *numbers_32(struct fenced it, const uint32_t *from, size_t given, size_t length)
+{
+    uint32_t *at = (uint32_t *)(void *)(it.end - length * sizeof *from);
+    if (it.bytes != 0) {
+        memset(it.end - it.bytes, 0, it.bytes);
+        memcpy(at, from, (length < given ? length : given) * sizeof *from);
+    }
+    return at;
+}
+
+static uint64_t *numbers_64(struct fenced it, const uint64_t *from, size_t given, size_t length)
+{
+    uint64_t *at = (uint64_t *)(void *)(it.end - length * sizeof *from);
+    if (it.bytes != 0) {
+        memset(it.end - it.bytes, 0, it.bytes);
+        memcpy(at, from, (length < given ? length : given) * sizeof *from);
+    }
+    return at;
+}
+
+static uint64_t due(size_t sheets, size_t calls, size_t records, size_t answers)
+{
+    if (sheets != KUXHOVEZA_SHEET)
+        return KUXHOVEZA_BAD_SHEET_LENGTH;
+    if (calls != KUXHOVEZA_CALL)
+        return KUXHOVEZA_BAD_CALL_LENGTH;
+    if (records != KUXHOVEZA_RECORD)
+        return KUXHOVEZA_BAD_RECORD_LENGTH;
+    return answers < KUXHOVEZA_ANSWER ? KUXHOVEZA_SHORT_BUFFER : KUXHOVEZA_WRITTEN;
+}
+
+/* Lengths that are tried of an array: the layout's among them. */
+#define TRIED 6
+static size_t tried(size_t i, size_t length)
+{
+    const size_t all[TRIED] = {0, 1, length / 2, length - 1, length, length + 1};
+    return all[i];
+}
+
+/* Every array with every length, each ending where memory does: what is due comes back, and there is no read behind an
+ * end. Where a length is wrong the arrays are lent once more with no number that may be read: none is. */
+static void fenced(void)
+{
+    struct fenced open[4] = {fence(1), fence(1), fence(1), fence(1)};
+    struct fenced shut[4] = {fence(0), fence(0), fence(0), fence(0)};
+    for (size_t all = 0; all < TRIED * TRIED * TRIED * TRIED; all++) {
+        size_t sheets = tried(all % TRIED, KUXHOVEZA_SHEET);
+        size_t calls = tried(all / TRIED % TRIED, KUXHOVEZA_CALL);
+        size_t records = tried(all / TRIED / TRIED % TRIED, KUXHOVEZA_RECORD);
+        size_t answers = tried(all / TRIED / TRIED / TRIED, KUXHOVEZA_ANSWER);
+        uint64_t expected = due(sheets, calls, records, answers);
+        for (int pass = 0; pass < (expected == KUXHOVEZA_WRITTEN ? 1 : 2); pass++) {
+            struct fenced *in = pass == 0 ? open : shut;
+            uint32_t *s = numbers_32(in[0], sheet, KUXHOVEZA_SHEET, sheets);
+            uint64_t *c = numbers_64(in[1], call, KUXHOVEZA_CALL, calls);
+            uint64_t *r = numbers_64(in[2], record, KUXHOVEZA_RECORD, records);
+            uint64_t *a = numbers_64(in[3], untouched, KUXHOVEZA_ANSWER, answers);
+            is("a fenced call", kuxhoveza_transition(s, sheets, c, calls, r, records, a, answers), expected);
+            if (expected == KUXHOVEZA_WRITTEN)
+                scheduled(a);
+            else if (pass == 0)
+                is("the fenced buffer",
+                   memcmp(a, untouched, (answers < KUXHOVEZA_ANSWER ? answers : KUXHOVEZA_ANSWER) * sizeof *a) == 0, 1);
+        }
+    }
+    for (size_t i = 0; i < TRIED; i++) {
+        size_t sheets = tried(i, KUXHOVEZA_SHEET);
+        for (size_t length = 0; length <= KUXHOVEZA_VERDICT + 1; length++) {
+            uint64_t expected = length < KUXHOVEZA_VERDICT ? KUXHOVEZA_SHORT_BUFFER : KUXHOVEZA_WRITTEN;
+            if (sheets != KUXHOVEZA_SHEET)
+                expected = KUXHOVEZA_BAD_SHEET_LENGTH;
+            for (int pass = 0; pass < (expected == KUXHOVEZA_WRITTEN ? 1 : 2); pass++) {
+                struct fenced *in = pass == 0 ? open : shut;
+                uint32_t *s = numbers_32(in[0], sheet, KUXHOVEZA_SHEET, sheets);
+                uint32_t *v = numbers_32(in[1], sheet, 0, length);
+                is("a fenced verdict", kuxhoveza_verdict(s, sheets, 64, 64, 64, 64, v, length), expected);
+            }
+        }
+    }
+}
+
+int main(void)
+{
+    is("the layout's version", kuxhoveza_layout_version(), KUXHOVEZA_LAYOUT_VERSION);
+    joint_a();
+    call_with(1, 1);
+    call[KUXHOVEZA_CALL_INPUT] = 42;
+    memset(untouched, 0xff, sizeof untouched);
+    numbers();
+    is("a start", transition(KUXHOVEZA_ANSWER), KUXHOVEZA_WRITTEN);
+    scheduled(answer);
+    verdicts();
+    fenced();
     return failures != 0;
 }

@@ -45,7 +45,7 @@ fn library_verdict(sheet: &kuxhoveza::Sheet) -> Option<(u32, u32)> {
         activations: CEILINGS.activations,
         attempts: CEILINGS.attempts,
     };
-    let refusal = kuxhoveza::verdict(sheet, ceilings)?;
+    let refusal = kuxhoveza::verdict(sheet, ceilings).expect("one layout")?;
     Some((refusal.number, refusal.item))
 }
 
@@ -141,9 +141,12 @@ fn show_call(name: &str, call: &Call) {
 
     out.decide(call);
     assert_eq!(original::answer(call), out.answer(), "{name}");
-    assert_eq!(boundary::transition(&sheet, &words, &lent, &mut theirs), 0);
+    assert_eq!(
+        boundary::transition(&sheet[..], &words, &lent, &mut theirs),
+        0
+    );
     assert_eq!(numbers::answer(&out.answer()).unwrap(), theirs, "{name}");
-    assert_eq!(raw::transition(&sheet, &words, &lent, &mut ours), 0);
+    assert_eq!(raw::transition(&sheet[..], &words, &lent, &mut ours), 0);
     assert_eq!(theirs, ours, "{name}");
 
     let [original, structs, plain, library] = least([
@@ -155,10 +158,10 @@ fn show_call(name: &str, call: &Call) {
             black_box(&out);
         },
         &mut || {
-            boundary::transition(black_box(&sheet), &words, &lent, black_box(&mut theirs));
+            boundary::transition(black_box(&sheet[..]), &words, &lent, black_box(&mut theirs));
         },
         &mut || {
-            raw::transition(black_box(&sheet), &words, &lent, black_box(&mut ours));
+            raw::transition(black_box(&sheet[..]), &words, &lent, black_box(&mut ours));
         },
     ]);
     println!(

@@ -27,7 +27,7 @@ use Rattle.host.specs.WriteLaws.{flat-size, length-answer, length-note, 
 use Rattle.host.specs.Host.{receipt, decided, answered}
 use Rattle.host.specs.ReadAnswer.{params-from, order-from, note-from, ending-from, accepted-from, answer-of-numbers}
 use Rattle.host.specs.Fits.{Fits, Accepted-fits, Answer-fits}
-use Rattle.host.specs.Lists.{span-list, row-at}
+use Rattle.host.specs.Lists.{span-list, row-at, length-padded, padded-at}
 use Rattle.host.specs.RoundBack.{record-back-of, record-numbers-length}
 
 -- THE ORDER behind the answer's first two numbers.
@@ -41,16 +41,6 @@ unfolding order-from order-numbers if_then_else_
 order-back a b Order.Nothing rest = refl
 order-back a b (Order.Schedule x) rest = rw (params-back (x .params) rest)
 order-back a b (Order.Retry x) rest = refl
-
--- A LIST IN ITS ARRAY.
-module _ {A : Type 0} (d : A) (xs : List A) where
-  length-padded : (size : ℕ) → length xs ≤ size → length (padded size d xs) ≡ size
-  unfolding padded
-  length-padded size h = simp (length-append, length-replicate) (omega arith)
-
-  padded-at : (size i : ℕ) → i < length xs → getD (padded size d xs) i d ≡ getD xs i d
-  unfolding padded
-  padded-at size i h = List·getD-append xs (replicate (size - length xs) d) d i h
 
 -- A DECISION whose arrays are whole.
 module _ (d : Decision) (noted : length (d .notes) ≡ layout.notes) (ended : length (d .endings) ≡ layout.endings) where
@@ -229,27 +219,27 @@ module _ (buffer numbers : List ℕ) where
   splice-at n h = List·getD-append numbers (drop (0 + length numbers) buffer) 0 n h
 
 -- What a host reads from the buffer of a call with receipt 0 is the answer of the definition.
-module _ (sheet call given buffer : List ℕ) (done : receipt call given (length buffer) ≡ 0) where
+module _ (sheet : List ℕ) (sheet-size : ℕ) (call given buffer : List ℕ) (done : receipt sheet-size call given (length buffer) ≡ layout.written) where
   abbrev answer : Answer
   answer = transition (workflow sheet) (given-record (has-record call) (record-of given)) (call-of call)
 
-  pub answered-begins : Answer-fits answer → take answer-length (answered sheet call given buffer) ≡ decision-numbers (decision-of answer)
+  pub answered-begins : Answer-fits answer → take answer-length (answered sheet sheet-size call given buffer) ≡ decision-numbers (decision-of answer)
   unfolding answered decided
   answered-begins f =
       let n = decision-numbers (decision-of answer) in
       let l : length n ≡ answer-length = answer-numbers-length answer f in
-      rw (if-true _ (splice buffer 0 n) buffer (eq-eqb _ 0 done)) (rw l at (splice-begins buffer n))
+      rw (if-true _ (splice buffer 0 n) buffer (eq-eqb _ layout.written done)) (rw l at (splice-begins buffer n))
 
-  pub answered-read : Answer-fits answer → answer-of-numbers (take answer-length (answered sheet call given buffer)) ≡ answer
+  pub answered-read : Answer-fits answer → answer-of-numbers (take answer-length (answered sheet sheet-size call given buffer)) ≡ answer
   answered-read f = rw (answered-begins f) (answer-back answer f)
 
   -- and the record in it is that of the answer
-  pub answered-next : (x : Accepted) → answer ≡ next x → Accepted-fits x → drop answer-record (take answer-length (answered sheet call given buffer)) ≡ record-numbers (x .state)
+  pub answered-next : (x : Accepted) → answer ≡ next x → Accepted-fits x → drop answer-record (take answer-length (answered sheet sheet-size call given buffer)) ≡ record-numbers (x .state)
   answered-next x e f =
       let g : Answer-fits answer = rw e f in
       rw (answered-begins g, e) (next-record x f)
 
-  pub answered-want : (node field from : ℕ) (state : State) → answer ≡ wants node field from state → Fits state → drop answer-record (take answer-length (answered sheet call given buffer)) ≡ record-numbers state
+  pub answered-want : (node field from : ℕ) (state : State) → answer ≡ wants node field from state → Fits state → drop answer-record (take answer-length (answered sheet sheet-size call given buffer)) ≡ record-numbers state
   answered-want node field from state e f =
       let g : Answer-fits answer = rw e f in
       rw (answered-begins g, e) (want-record node field from state f)

@@ -1,6 +1,32 @@
 -- Where each number of a run record, a call and an answer stands (docs/NUMBERS.md): the names of src/layout.rt.
 use Prim.Native.Nat.{ℕ, _+_, _*_}
 
+-- The layout's version.
+abbrev pub layout-version : ℕ
+layout-version = 1
+
+-- What a function returns: what it answers is written; or why nothing is.
+abbrev pub written : ℕ
+written = 0
+
+abbrev pub short-buffer : ℕ
+short-buffer = 1
+
+abbrev pub bad-call : ℕ
+bad-call = 2
+
+abbrev pub bad-record : ℕ
+bad-record = 3
+
+abbrev pub bad-sheet-length : ℕ
+bad-sheet-length = 4
+
+abbrev pub bad-call-length : ℕ
+bad-call-length = 5
+
+abbrev pub bad-record-length : ℕ
+bad-record-length = 6
+
 -- Capacities.
 abbrev pub store : ℕ
 store = 64
@@ -266,6 +292,16 @@ answer-refusal-number = 1
 
 abbrev pub answer-refusal-item : ℕ
 answer-refusal-item = 2
+
+-- Verdict.
+abbrev pub verdict-number : ℕ
+verdict-number = 0
+
+abbrev pub verdict-item : ℕ
+verdict-item = 1
+
+abbrev pub verdict-length : ℕ
+verdict-length = 2
 
 -- Where a row begins.
 abbrev pub signal-place : ℕ → ℕ

@@ -11,6 +11,8 @@ pub mod WriteLaws
 pub mod HostLaws
 pub mod Lists
 pub mod Cases
+pub mod ByCount
+pub mod WriteRows
 pub mod Round
 pub mod RoundBack
 pub mod AnswerBack

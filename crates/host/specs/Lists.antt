@@ -2,15 +2,16 @@
 use mathlib.Core.Path.{_≡_, refl, _∙_, ap}
 use mathlib.Core.Bool.{Bool, true}
 use mathlib.Core.List.{List, [], _∷_, _++_, flatMap, append-assoc}
-use Prim.Native.Nat.{ℕ, zero, suc, _+_, _*_, _-_, _<_}
+use Prim.Native.Nat.{ℕ, zero, suc, _+_, _*_, _-_, _≤_, _<_}
 use native.Mathlib.Nat.{mul-suc}
 use native.Mathlib.Omega.{arith}
-use lib.ListN.{length, getD, List·getD-append}
+use lib.ListN.{length, getD, replicate, length-append, length-replicate, List·getD-append}
 use lib.Seq.{getD-append-add}
 use Rattle.laws.specs.Bool.{both, join}
 use Rattle.laws.specs.Rows.{rows, span, rows-all}
 use Rattle.laws.specs.Every.{every}
 use Rattle.laws.specs.All.{All}
+use Rattle.laws.specs.Listing.{padded}
 
 -- ALL ELEMENTS.
 module _ {A : Type 0} (P : A → Type 0) where
@@ -51,6 +52,27 @@ unfolding span
 span-list f d l n e h =
     let z : n - 0 ≡ n = omega arith in
     rw z (rows-same f (λ i. getD l i d) 0 n n (omega arith) h ∙ rows-all d l n e)
+
+-- A LIST IN ITS ARRAY, filled up with a default.
+pub getD-replicate-same : {A : Type 0} (d : A) (n i : ℕ) → getD (replicate n d) i d ≡ d
+getD-replicate-same d zero i = refl
+getD-replicate-same d (suc n) zero = refl
+getD-replicate-same d (suc n) (suc i) = getD-replicate-same d n i
+
+module _ {A : Type 0} (d : A) (xs : List A) where
+  pub length-padded : (size : ℕ) → length xs ≤ size → length (padded size d xs) ≡ size
+  unfolding padded
+  length-padded size h = simp (length-append, length-replicate) (omega arith)
+
+  pub padded-at : (size i : ℕ) → i < length xs → getD (padded size d xs) i d ≡ getD xs i d
+  unfolding padded
+  padded-at size i h = List·getD-append xs (replicate (size - length xs) d) d i h
+
+  pub padded-past : (size i : ℕ) → length xs ≤ i → getD (padded size d xs) i d ≡ d
+  unfolding padded
+  padded-past size i h =
+      let e : i ≡ length xs + (i - length xs) = omega arith in
+      rw e (getD-append-add xs (replicate (size - length xs) d) (i - length xs) d ∙ getD-replicate-same d (size - length xs) (i - length xs))
 
 -- ROWS OF NUMBERS, each of a width, with numbers in front of them and behind them.
 module _ {A : Type 0} (f : A → List ℕ) (w : ℕ) (wide : (x : A) → length (f x) ≡ w) (rest : List ℕ) (d : A) (j : ℕ) (inside : j < w) where

@@ -18,12 +18,15 @@ use model::event::Event;
 use model::event::Mapping;
 use model::event::Mappings;
 ghost use mathlib.Core.Path.{_≡_};
-ghost use Prim.Native.Nat.{_<_};
+ghost use Prim.Native.Nat.{_≤_, _<_};
 ghost use lib.ListN.{length};
 ghost use Rattle.laws.specs.Rows.{span};
 ghost use Rattle.laws.specs.Every.{below};
-ghost use Rattle.host.specs.Layout.{store, nodes, mappings};
-ghost use Rattle.host.specs.Read.{at, narrow, error-of, output-of, kept-of, signal-of, visits-of, streak-of, result-of, position-of, invocation-of, run-result-of, record-of, event-of, mapping-of, ceilings-of, limits-of, call-of, all-fit, limit-fields, event-fields, mapping-fields, head-fields, error-fits, output-fits, kept-fits, head-fits, signal-fits, node-fits, record-fits, call-fits};
+ghost use Rattle.laws.specs.Listing.{padded};
+ghost use Rattle.model.specs.Record.{no-signal, no-visits, no-streak, no-node-result};
+ghost use Rattle.host.specs.Layout.{store, nodes, mappings, record-length, call-length};
+ghost use Rattle.host.specs.Read.{at, narrow, error-of, output-of, kept-of, signal-of, visits-of, streak-of, result-of, position-of, invocation-of, run-result-of, event-of, mapping-of, ceilings-of, limits-of, call-of, all-fit, limit-fields, event-fields, mapping-fields, head-fields, error-fits, output-fits, kept-fits, head-fits, signal-fits, node-fits, record-fits, call-fits};
+ghost use Rattle.host.specs.ByCount.{blank, Signals-past, Nodes-past, Past, Used-rows, record-rows};
 
 // What a field's number must be below: any number; the name of a node, an action, a signal or an outcome; the code of an
 // error; a mark.
@@ -82,7 +85,8 @@ fn kept(tag: u64, a: u64, b: u64, c: u64) -> Kept
 
 // Rows.
 
-fn signal(xs: &[u64; layout::RECORD], i: usize) -> BufferedSignal
+fn signal(xs: &[u64], i: usize) -> BufferedSignal
+    requires { ⌜ length (now xs) ≡ record-length ⌝ }
     requires { ⌜ i < store ⌝ }
     ensures { λ r. ⌜ r ≡ signal-of (now (xs .entry)) i ⌝ }
 {
@@ -96,7 +100,8 @@ fn signal(xs: &[u64; layout::RECORD], i: usize) -> BufferedSignal
     }
 }
 
-fn visits_of(xs: &[u64; layout::RECORD], i: usize) -> Visits
+fn visits_of(xs: &[u64], i: usize) -> Visits
+    requires { ⌜ length (now xs) ≡ record-length ⌝ }
     requires { ⌜ i < nodes ⌝ }
     ensures { λ r. ⌜ r ≡ visits-of (now (xs .entry)) i ⌝ }
 {
@@ -105,7 +110,8 @@ fn visits_of(xs: &[u64; layout::RECORD], i: usize) -> Visits
     }
 }
 
-fn streak(xs: &[u64; layout::RECORD], i: usize) -> Streak
+fn streak(xs: &[u64], i: usize) -> Streak
+    requires { ⌜ length (now xs) ≡ record-length ⌝ }
     requires { ⌜ i < nodes ⌝ }
     ensures { λ r. ⌜ r ≡ streak-of (now (xs .entry)) i ⌝ }
 {
@@ -116,7 +122,8 @@ fn streak(xs: &[u64; layout::RECORD], i: usize) -> Streak
     }
 }
 
-fn result(xs: &[u64; layout::RECORD], i: usize) -> NodeResult
+fn result(xs: &[u64], i: usize) -> NodeResult
+    requires { ⌜ length (now xs) ≡ record-length ⌝ }
     requires { ⌜ i < nodes ⌝ }
     ensures { λ r. ⌜ r ≡ result-of (now (xs .entry)) i ⌝ }
 {
@@ -129,47 +136,51 @@ fn result(xs: &[u64; layout::RECORD], i: usize) -> NodeResult
     }
 }
 
-fn signals(xs: &[u64; layout::RECORD]) -> [BufferedSignal; layout::STORE]
-    ensures { λ r. ⌜ r ≡ span (signal-of (now (xs .entry))) 0 store ⌝ }
+fn signals(xs: &[u64], rows: usize) -> [BufferedSignal; layout::STORE]
+    requires { ⌜ (length (now xs) ≡ record-length) × (rows ≤ store) ⌝ }
+    ensures { λ r. ⌜ r ≡ padded store no-signal (span (signal-of (now (xs .entry))) 0 rows) ⌝ }
 {
     let mut a = [BufferedSignal::none(); layout::STORE];
     let mut i: usize = 0;
-    while i < layout::STORE {
+    while i < rows {
         a[i] = signal(xs, i);
         i += 1;
     }
     a
 }
 
-fn visits(xs: &[u64; layout::RECORD]) -> [Visits; layout::NODES]
-    ensures { λ r. ⌜ r ≡ span (visits-of (now (xs .entry))) 0 nodes ⌝ }
+fn visits(xs: &[u64], rows: usize) -> [Visits; layout::NODES]
+    requires { ⌜ (length (now xs) ≡ record-length) × (rows ≤ nodes) ⌝ }
+    ensures { λ r. ⌜ r ≡ padded nodes no-visits (span (visits-of (now (xs .entry))) 0 rows) ⌝ }
 {
     let mut a = [Visits { count: 0 }; layout::NODES];
     let mut i: usize = 0;
-    while i < layout::NODES {
+    while i < rows {
         a[i] = visits_of(xs, i);
         i += 1;
     }
     a
 }
 
-fn streaks(xs: &[u64; layout::RECORD]) -> [Streak; layout::NODES]
-    ensures { λ r. ⌜ r ≡ span (streak-of (now (xs .entry))) 0 nodes ⌝ }
+fn streaks(xs: &[u64], rows: usize) -> [Streak; layout::NODES]
+    requires { ⌜ (length (now xs) ≡ record-length) × (rows ≤ nodes) ⌝ }
+    ensures { λ r. ⌜ r ≡ padded nodes no-streak (span (streak-of (now (xs .entry))) 0 rows) ⌝ }
 {
     let mut a = [Streak {
         outcome: 0,
         count: 0,
     }; layout::NODES];
     let mut i: usize = 0;
-    while i < layout::NODES {
+    while i < rows {
         a[i] = streak(xs, i);
         i += 1;
     }
     a
 }
 
-fn results(xs: &[u64; layout::RECORD]) -> [NodeResult; layout::NODES]
-    ensures { λ r. ⌜ r ≡ span (result-of (now (xs .entry))) 0 nodes ⌝ }
+fn results(xs: &[u64], rows: usize) -> [NodeResult; layout::NODES]
+    requires { ⌜ (length (now xs) ≡ record-length) × (rows ≤ nodes) ⌝ }
+    ensures { λ r. ⌜ r ≡ padded nodes no-node-result (span (result-of (now (xs .entry))) 0 rows) ⌝ }
 {
     let mut a = [NodeResult {
         visit: 0,
@@ -177,16 +188,96 @@ fn results(xs: &[u64; layout::RECORD]) -> [NodeResult; layout::NODES]
         output: Output::Nothing,
     }; layout::NODES];
     let mut i: usize = 0;
-    while i < layout::NODES {
+    while i < rows {
         a[i] = result(xs, i);
         i += 1;
     }
     a
 }
 
+// How many rows are read.
+
+pub struct Used {
+    pub signals: usize,
+    pub nodes: usize,
+}
+
+// The numbers from a place to an end are zero. One pass without a test, so that the compiler makes it a vector loop.
+fn blank(xs: &[u64], start: usize, end: usize) -> bool
+    requires { ⌜ end ≤ length (now xs) ⌝ }
+    ensures { λ r. ⌜ r ≡ blank (now (xs .entry)) start end ⌝ }
+{
+    let mut dirt: u64 = 0;
+    let mut i = start;
+    while i < end {
+        dirt = dirt | xs[i];
+        i += 1;
+    }
+    dirt == 0
+}
+
+// By the record's count, where all that follows is zero; else all.
+fn signal_rows(xs: &[u64]) -> usize
+    requires { ⌜ length (now xs) ≡ record-length ⌝ }
+    ensures { λ r. ⌜ Signals-past (now (xs .entry)) r ⌝ }
+{
+    let stored = xs[layout::RECORD_STORED];
+    if stored < (layout::STORE as u64) {
+        let rows = stored as usize;
+        if blank(
+            xs,
+            layout::RECORD_SIGNALS + layout::SIGNAL_WIDTH * rows,
+            layout::RECORD_VISITS,
+        ) {
+            return rows;
+        }
+    }
+    layout::STORE
+}
+
+// By the sheet's count.
+fn node_rows(xs: &[u64], rows: usize) -> usize
+    requires { ⌜ (length (now xs) ≡ record-length) × (rows ≤ nodes) ⌝ }
+    ensures { λ r. ⌜ Nodes-past (now (xs .entry)) r ⌝ }
+{
+    if blank(xs, layout::RECORD_VISITS + rows, layout::RECORD_STREAKS)
+        & blank(
+            xs,
+            layout::RECORD_STREAKS + layout::STREAK_WIDTH * rows,
+            layout::RECORD_RESULTS,
+        )
+        & blank(
+            xs,
+            layout::RECORD_RESULTS + layout::RESULT_WIDTH * rows,
+            layout::RECORD,
+        )
+    {
+        return rows;
+    }
+    layout::NODES
+}
+
+// None of a record that goes with no call.
+pub fn used_rows(xs: &[u64], has_record: bool, rows: usize) -> Used
+    requires { ⌜ (length (now xs) ≡ record-length) × (rows ≤ nodes) ⌝ }
+    ensures { λ r. ⌜ Used-rows «has_record» (now (xs .entry)) r ⌝ }
+{
+    if has_record {
+        return Used {
+            signals: signal_rows(xs),
+            nodes: node_rows(xs, rows),
+        };
+    }
+    Used {
+        signals: 0,
+        nodes: 0,
+    }
+}
+
 // The run record.
 
-fn position(xs: &[u64; layout::RECORD]) -> Position
+fn position(xs: &[u64]) -> Position
+    requires { ⌜ length (now xs) ≡ record-length ⌝ }
     ensures { λ r. ⌜ r ≡ position-of (now (xs .entry)) ⌝ }
 {
     Position {
@@ -195,7 +286,8 @@ fn position(xs: &[u64; layout::RECORD]) -> Position
     }
 }
 
-fn invocation(xs: &[u64; layout::RECORD]) -> InvocationState
+fn invocation(xs: &[u64]) -> InvocationState
+    requires { ⌜ length (now xs) ≡ record-length ⌝ }
     ensures { λ r. ⌜ r ≡ invocation-of (now (xs .entry)) ⌝ }
 {
     let error = kept(
@@ -215,7 +307,8 @@ fn invocation(xs: &[u64; layout::RECORD]) -> InvocationState
     }
 }
 
-fn run_result(xs: &[u64; layout::RECORD]) -> RunResult
+fn run_result(xs: &[u64]) -> RunResult
+    requires { ⌜ length (now xs) ≡ record-length ⌝ }
     ensures { λ r. ⌜ r ≡ run-result-of (now (xs .entry)) ⌝ }
 {
     let output = output(
@@ -227,13 +320,14 @@ fn run_result(xs: &[u64; layout::RECORD]) -> RunResult
     RunResult { output }
 }
 
-pub fn read_record(xs: &[u64; layout::RECORD]) -> State
-    ensures { λ r. ⌜ r ≡ record-of (now (xs .entry)) ⌝ }
+pub fn read_record(xs: &[u64], used: Used) -> State
+    requires { ⌜ (length (now xs) ≡ record-length) × (used .signals ≤ store) × (used .nodes ≤ nodes) ⌝ }
+    ensures { λ r. ⌜ r ≡ record-rows (used .signals) (used .nodes) (now (xs .entry)) ⌝ }
 {
-    let signals = signals(xs);
-    let visits = visits(xs);
-    let streaks = streaks(xs);
-    let results = results(xs);
+    let signals = signals(xs, used.signals);
+    let visits = visits(xs, used.nodes);
+    let streaks = streaks(xs, used.nodes);
+    let results = results(xs, used.nodes);
     let position = position(xs);
     let invocation = invocation(xs);
     let result = run_result(xs);
@@ -256,7 +350,8 @@ pub fn read_record(xs: &[u64; layout::RECORD]) -> State
 
 // The call.
 
-fn event(c: &[u64; layout::CALL]) -> Event
+fn event(c: &[u64]) -> Event
+    requires { ⌜ length (now c) ≡ call-length ⌝ }
     ensures { λ r. ⌜ r ≡ event-of (now (c .entry)) ⌝ }
 {
     Event {
@@ -282,7 +377,8 @@ fn event(c: &[u64; layout::CALL]) -> Event
     }
 }
 
-fn mapping(c: &[u64; layout::CALL], i: usize) -> Mapping
+fn mapping(c: &[u64], i: usize) -> Mapping
+    requires { ⌜ length (now c) ≡ call-length ⌝ }
     requires { ⌜ i < mappings ⌝ }
     ensures { λ r. ⌜ r ≡ mapping-of (now (c .entry)) i ⌝ }
 {
@@ -296,7 +392,8 @@ fn mapping(c: &[u64; layout::CALL], i: usize) -> Mapping
     }
 }
 
-fn ceilings(c: &[u64; layout::CALL]) -> Ceilings
+fn ceilings(c: &[u64]) -> Ceilings
+    requires { ⌜ length (now c) ≡ call-length ⌝ }
     ensures { λ r. ⌜ r ≡ ceilings-of (now (c .entry)) ⌝ }
 {
     Ceilings {
@@ -307,7 +404,8 @@ fn ceilings(c: &[u64; layout::CALL]) -> Ceilings
     }
 }
 
-fn limits(c: &[u64; layout::CALL]) -> Limits
+fn limits(c: &[u64]) -> Limits
+    requires { ⌜ length (now c) ≡ call-length ⌝ }
     ensures { λ r. ⌜ r ≡ limits-of (now (c .entry)) ⌝ }
 {
     Limits {
@@ -317,7 +415,8 @@ fn limits(c: &[u64; layout::CALL]) -> Limits
     }
 }
 
-pub fn read_call(c: &[u64; layout::CALL]) -> Call
+pub fn read_call(c: &[u64]) -> Call
+    requires { ⌜ length (now c) ≡ call-length ⌝ }
     ensures { λ r. ⌜ r ≡ call-of (now (c .entry)) ⌝ }
 {
     let ceilings = ceilings(c);
@@ -366,7 +465,8 @@ fn kept_fits(tag: u64, a: u64, b: u64, c: u64) -> bool
 }
 
 // The single numbers of a record.
-fn scalars_fit(xs: &[u64; layout::RECORD]) -> bool
+fn scalars_fit(xs: &[u64]) -> bool
+    requires { ⌜ length (now xs) ≡ record-length ⌝ }
     ensures { λ r. ⌜ r ≡ all-fit (now (xs .entry)) head-fields ⌝ }
 {
     (xs[layout::RECORD_STATUS] < NUMBER)
@@ -384,7 +484,8 @@ fn scalars_fit(xs: &[u64; layout::RECORD]) -> bool
 }
 
 // A record up to its rows.
-fn head_fits(xs: &[u64; layout::RECORD]) -> bool
+fn head_fits(xs: &[u64]) -> bool
+    requires { ⌜ length (now xs) ≡ record-length ⌝ }
     ensures { λ r. ⌜ r ≡ head-fits (now (xs .entry)) ⌝ }
 {
     scalars_fit(xs)
@@ -402,7 +503,8 @@ fn head_fits(xs: &[u64; layout::RECORD]) -> bool
         )
 }
 
-fn signal_fits(xs: &[u64; layout::RECORD], i: usize) -> bool
+fn signal_fits(xs: &[u64], i: usize) -> bool
+    requires { ⌜ length (now xs) ≡ record-length ⌝ }
     requires { ⌜ i < store ⌝ }
     ensures { λ r. ⌜ r ≡ signal-fits (now (xs .entry)) i ⌝ }
 {
@@ -411,7 +513,8 @@ fn signal_fits(xs: &[u64; layout::RECORD], i: usize) -> bool
 }
 
 // The numbers of one node: its visits, its streak and its result.
-fn node_fits(xs: &[u64; layout::RECORD], n: usize) -> bool
+fn node_fits(xs: &[u64], n: usize) -> bool
+    requires { ⌜ length (now xs) ≡ record-length ⌝ }
     requires { ⌜ n < nodes ⌝ }
     ensures { λ r. ⌜ r ≡ node-fits (now (xs .entry)) n ⌝ }
 {
@@ -426,24 +529,26 @@ fn node_fits(xs: &[u64; layout::RECORD], n: usize) -> bool
     plain & output_fits(xs[k + 2], xs[k + 3], xs[k + 4], xs[k + 5])
 }
 
-fn signals_fit(xs: &[u64; layout::RECORD]) -> bool
-    ensures { λ r. ⌜ r ≡ below store (signal-fits (now (xs .entry))) ⌝ }
+fn signals_fit(xs: &[u64], rows: usize) -> bool
+    requires { ⌜ (length (now xs) ≡ record-length) × (rows ≤ store) ⌝ }
+    ensures { λ r. ⌜ r ≡ below rows (signal-fits (now (xs .entry))) ⌝ }
 {
     let mut fit = true;
     let mut i: usize = 0;
-    while i < layout::STORE {
+    while i < rows {
         fit = fit & signal_fits(xs, i);
         i += 1;
     }
     fit
 }
 
-fn nodes_fit(xs: &[u64; layout::RECORD]) -> bool
-    ensures { λ r. ⌜ r ≡ below nodes (node-fits (now (xs .entry))) ⌝ }
+fn nodes_fit(xs: &[u64], rows: usize) -> bool
+    requires { ⌜ (length (now xs) ≡ record-length) × (rows ≤ nodes) ⌝ }
+    ensures { λ r. ⌜ r ≡ below rows (node-fits (now (xs .entry))) ⌝ }
 {
     let mut fit = true;
     let mut i: usize = 0;
-    while i < layout::NODES {
+    while i < rows {
         fit = fit & node_fits(xs, i);
         i += 1;
     }
@@ -451,13 +556,15 @@ fn nodes_fit(xs: &[u64; layout::RECORD]) -> bool
 }
 
 // Every number of a record is one that its field can hold.
-pub fn record_fits(xs: &[u64; layout::RECORD]) -> bool
+pub fn record_fits(xs: &[u64], used: Used) -> bool
+    requires { ⌜ (length (now xs) ≡ record-length) × Past (now xs) used ⌝ }
     ensures { λ r. ⌜ r ≡ record-fits (now (xs .entry)) ⌝ }
 {
-    head_fits(xs) & signals_fit(xs) & nodes_fit(xs)
+    head_fits(xs) & signals_fit(xs, used.signals) & nodes_fit(xs, used.nodes)
 }
 
-fn limits_fit(c: &[u64; layout::CALL]) -> bool
+fn limits_fit(c: &[u64]) -> bool
+    requires { ⌜ length (now c) ≡ call-length ⌝ }
     ensures { λ r. ⌜ r ≡ all-fit (now (c .entry)) limit-fields ⌝ }
 {
     (c[layout::CALL_CEILING_NODES] < NUMBER)
@@ -470,7 +577,8 @@ fn limits_fit(c: &[u64; layout::CALL]) -> bool
         & (c[layout::CALL_HAS_RECORD] < MARK)
 }
 
-fn event_fits(c: &[u64; layout::CALL]) -> bool
+fn event_fits(c: &[u64]) -> bool
+    requires { ⌜ length (now c) ≡ call-length ⌝ }
     ensures { λ r. ⌜ r ≡ all-fit (now (c .entry)) event-fields ⌝ }
 {
     (c[layout::CALL_EVENT_ID] < NUMBER)
@@ -492,7 +600,8 @@ fn event_fits(c: &[u64; layout::CALL]) -> bool
         & (c[layout::CALL_ANSWERED] < NUMBER)
 }
 
-fn mapping_fits(c: &[u64; layout::CALL], i: usize) -> bool
+fn mapping_fits(c: &[u64], i: usize) -> bool
+    requires { ⌜ length (now c) ≡ call-length ⌝ }
     requires { ⌜ i < mappings ⌝ }
     ensures { λ r. ⌜ r ≡ all-fit (now (c .entry)) (mapping-fields i) ⌝ }
 {
@@ -505,7 +614,8 @@ fn mapping_fits(c: &[u64; layout::CALL], i: usize) -> bool
 }
 
 // Every number of a call is one that its field can hold.
-pub fn call_fits(c: &[u64; layout::CALL]) -> bool
+pub fn call_fits(c: &[u64]) -> bool
+    requires { ⌜ length (now c) ≡ call-length ⌝ }
     ensures { λ r. ⌜ r ≡ call-fits (now (c .entry)) ⌝ }
 {
     limits_fit(c) & event_fits(c) & mapping_fits(c, 0) & mapping_fits(c, 1)

@@ -3,19 +3,25 @@ use crate::layout;
 use kernel::Decision;
 use model::BufferedSignal;
 use model::NodeResult;
+use model::Output;
 use model::State;
 use model::Streak;
 use model::Visits;
 use model::answer::Answer;
 use model::answer::Ending;
 use model::answer::Note;
+use workflow::capped;
 ghost use mathlib.Core.Path.{_≡_};
-ghost use mathlib.Core.List.{flatMap};
 ghost use Prim.Native.Nat.{_+_, _*_, _≤_};
-ghost use lib.ListN.{length};
+ghost use lib.ListN.{length, replicate};
 ghost use Rattle.laws.specs.Splice.{splice};
+ghost use Rattle.model.specs.declared.Output.{Output};
+ghost use Rattle.model.specs.Record.{no-signal, no-visits, no-streak, no-node-result};
+ghost use Rattle.model.specs.Step.{no-note, no-ending};
 ghost use Rattle.host.specs.Layout.{store, nodes, notes, endings, signal-width, streak-width, result-width, note-width, ending-width, record-signals, record-length, answer-length};
-ghost use Rattle.host.specs.Write.{signal-numbers, visits-numbers, streak-numbers, result-numbers, note-numbers, ending-numbers, scalar-numbers, head-numbers, record-numbers, state-numbers, decision-numbers};
+ghost use Rattle.host.specs.Write.{signal-numbers, visits-numbers, streak-numbers, result-numbers, note-numbers, ending-numbers, scalar-numbers, head-numbers, record-numbers, decision-numbers};
+ghost use Rattle.host.specs.ByCount.{Zeros};
+ghost use Rattle.host.specs.WriteRows.{rows-of, Empty-past, Rows-written, is-refused, Counted};
 
 fn write(out: &mut [u64], at: usize, xs: &[u64])
     requires { ⌜ at + length (now xs) ≤ length (now out) ⌝ }
@@ -28,12 +34,69 @@ fn write(out: &mut [u64], at: usize, xs: &[u64])
     }
 }
 
-fn write_signals(out: &mut [u64], at: usize, xs: [BufferedSignal; layout::STORE])
-    requires { ⌜ at + signal-width * store ≤ length (now out) ⌝ }
-    ensures { λ _. ⌜ now (out .exit) ≡ splice (now (out .entry)) at (flatMap signal-numbers xs) ⌝ }
+// A row's digits are 0 only if it is the empty one.
+
+fn signal_digits(x: BufferedSignal) -> u64
+    ensures { λ r. ⌜ (r ≡ 0 → x ≡ no-signal) ⌝ }
 {
+    x.sequence | (x.event_id as u64) | (x.signal as u64) | (x.outcome as u64) | (x.data as u64)
+}
+
+fn visits_digits(x: Visits) -> u64
+    ensures { λ r. ⌜ (r ≡ 0 → x ≡ no-visits) ⌝ }
+{
+    x.count as u64
+}
+
+fn streak_digits(x: Streak) -> u64
+    ensures { λ r. ⌜ (r ≡ 0 → x ≡ no-streak) ⌝ }
+{
+    (x.outcome as u64) | (x.count as u64)
+}
+
+fn output_digits(x: Output) -> u64
+    ensures { λ r. ⌜ (r ≡ 0 → x ≡ Output.Nothing) ⌝ }
+{
+    match x {
+        Output::Nothing => 0,
+        Output::Handle(_) => 1,
+        Output::Error(_) => 1,
+    }
+}
+
+fn result_digits(x: NodeResult) -> u64
+    ensures { λ r. ⌜ (r ≡ 0 → x ≡ no-node-result) ⌝ }
+{
+    let output = x.output;
+    (x.visit as u64) | (x.outcome as u64) | output_digits(output)
+}
+
+// How many rows are written: those up to a count where the digits of all others are 0, else all.
+fn rows_of(digits: u64, count: usize, all: usize) -> usize
+    ensures { λ r. ⌜ r ≡ rows-of digits count all ⌝ }
+{
+    if digits == 0 {
+        return count;
+    }
+    all
+}
+
+// Rows by count, over a buffer that is zero: rows past the last that is written are empty ones.
+
+fn write_signals(out: &mut [u64], at: usize, xs: [BufferedSignal; layout::STORE], count: usize)
+    requires { ⌜ (at + signal-width * store ≤ length (now out)) × (count ≤ store) ⌝ }
+    ensures { λ _. ⌜ Rows-written signal-numbers no-signal xs store at (now (out .entry)) (now (out .exit)) ⌝ }
+{
+    let mut digits: u64 = 0;
+    let mut k = count;
+    while k < layout::STORE {
+        let x = xs[k];
+        digits = digits | signal_digits(x);
+        k += 1;
+    }
+    let rows = rows_of(digits, count, layout::STORE);
     let mut i: usize = 0;
-    while i < layout::STORE {
+    while i < rows {
         let x = xs[i];
         let row = [
             x.sequence,
@@ -47,12 +110,20 @@ fn write_signals(out: &mut [u64], at: usize, xs: [BufferedSignal; layout::STORE]
     }
 }
 
-fn write_visits(out: &mut [u64], at: usize, xs: [Visits; layout::NODES])
-    requires { ⌜ at + nodes ≤ length (now out) ⌝ }
-    ensures { λ _. ⌜ now (out .exit) ≡ splice (now (out .entry)) at (flatMap visits-numbers xs) ⌝ }
+fn write_visits(out: &mut [u64], at: usize, xs: [Visits; layout::NODES], count: usize)
+    requires { ⌜ (at + nodes ≤ length (now out)) × (count ≤ nodes) ⌝ }
+    ensures { λ _. ⌜ Rows-written visits-numbers no-visits xs nodes at (now (out .entry)) (now (out .exit)) ⌝ }
 {
+    let mut digits: u64 = 0;
+    let mut k = count;
+    while k < layout::NODES {
+        let x = xs[k];
+        digits = digits | visits_digits(x);
+        k += 1;
+    }
+    let rows = rows_of(digits, count, layout::NODES);
     let mut i: usize = 0;
-    while i < layout::NODES {
+    while i < rows {
         let x = xs[i];
         let row = [x.count as u64];
         write(out, at + i, &row);
@@ -60,12 +131,20 @@ fn write_visits(out: &mut [u64], at: usize, xs: [Visits; layout::NODES])
     }
 }
 
-fn write_streaks(out: &mut [u64], at: usize, xs: [Streak; layout::NODES])
-    requires { ⌜ at + streak-width * nodes ≤ length (now out) ⌝ }
-    ensures { λ _. ⌜ now (out .exit) ≡ splice (now (out .entry)) at (flatMap streak-numbers xs) ⌝ }
+fn write_streaks(out: &mut [u64], at: usize, xs: [Streak; layout::NODES], count: usize)
+    requires { ⌜ (at + streak-width * nodes ≤ length (now out)) × (count ≤ nodes) ⌝ }
+    ensures { λ _. ⌜ Rows-written streak-numbers no-streak xs nodes at (now (out .entry)) (now (out .exit)) ⌝ }
 {
+    let mut digits: u64 = 0;
+    let mut k = count;
+    while k < layout::NODES {
+        let x = xs[k];
+        digits = digits | streak_digits(x);
+        k += 1;
+    }
+    let rows = rows_of(digits, count, layout::NODES);
     let mut i: usize = 0;
-    while i < layout::NODES {
+    while i < rows {
         let x = xs[i];
         let row = [x.outcome as u64, x.count as u64];
         write(out, at + layout::STREAK_WIDTH * i, &row);
@@ -73,12 +152,20 @@ fn write_streaks(out: &mut [u64], at: usize, xs: [Streak; layout::NODES])
     }
 }
 
-fn write_results(out: &mut [u64], at: usize, xs: [NodeResult; layout::NODES])
-    requires { ⌜ at + result-width * nodes ≤ length (now out) ⌝ }
-    ensures { λ _. ⌜ now (out .exit) ≡ splice (now (out .entry)) at (flatMap result-numbers xs) ⌝ }
+fn write_results(out: &mut [u64], at: usize, xs: [NodeResult; layout::NODES], count: usize)
+    requires { ⌜ (at + result-width * nodes ≤ length (now out)) × (count ≤ nodes) ⌝ }
+    ensures { λ _. ⌜ Rows-written result-numbers no-node-result xs nodes at (now (out .entry)) (now (out .exit)) ⌝ }
 {
+    let mut digits: u64 = 0;
+    let mut k = count;
+    while k < layout::NODES {
+        let x = xs[k];
+        digits = digits | result_digits(x);
+        k += 1;
+    }
+    let rows = rows_of(digits, count, layout::NODES);
     let mut i: usize = 0;
-    while i < layout::NODES {
+    while i < rows {
         let x = xs[i];
         let output = x.output;
         let o = output.numbers();
@@ -88,12 +175,12 @@ fn write_results(out: &mut [u64], at: usize, xs: [NodeResult; layout::NODES])
     }
 }
 
-fn write_notes(out: &mut [u64], at: usize, xs: [Note; layout::NOTES])
-    requires { ⌜ at + note-width * notes ≤ length (now out) ⌝ }
-    ensures { λ _. ⌜ now (out .exit) ≡ splice (now (out .entry)) at (flatMap note-numbers xs) ⌝ }
+fn write_notes(out: &mut [u64], at: usize, xs: [Note; layout::NOTES], rows: usize)
+    requires { ⌜ (at + note-width * notes ≤ length (now out)) × Empty-past no-note xs notes rows ⌝ }
+    ensures { λ _. ⌜ Rows-written note-numbers no-note xs notes at (now (out .entry)) (now (out .exit)) ⌝ }
 {
     let mut i: usize = 0;
-    while i < layout::NOTES {
+    while i < rows {
         let x = xs[i];
         let row = [
             x.code as u64,
@@ -107,12 +194,12 @@ fn write_notes(out: &mut [u64], at: usize, xs: [Note; layout::NOTES])
     }
 }
 
-fn write_endings(out: &mut [u64], at: usize, xs: [Ending; layout::ENDINGS])
-    requires { ⌜ at + ending-width * endings ≤ length (now out) ⌝ }
-    ensures { λ _. ⌜ now (out .exit) ≡ splice (now (out .entry)) at (flatMap ending-numbers xs) ⌝ }
+fn write_endings(out: &mut [u64], at: usize, xs: [Ending; layout::ENDINGS], rows: usize)
+    requires { ⌜ (at + ending-width * endings ≤ length (now out)) × Empty-past no-ending xs endings rows ⌝ }
+    ensures { λ _. ⌜ Rows-written ending-numbers no-ending xs endings at (now (out .entry)) (now (out .exit)) ⌝ }
 {
     let mut i: usize = 0;
-    while i < layout::ENDINGS {
+    while i < rows {
         let x = xs[i];
         let row = [x.sequence, x.ending as u64];
         write(out, at + layout::ENDING_WIDTH * i, &row);
@@ -161,45 +248,55 @@ fn write_head(out: &mut [u64], at: usize, s: State)
     write(out, at + layout::RECORD_STORED, &count);
 }
 
-fn write_record(out: &mut [u64], at: usize, s: State)
-    requires { ⌜ at + record-length ≤ length (now out) ⌝ }
+// A record over zeros, with the sheet's count of nodes.
+fn write_record(out: &mut [u64], at: usize, s: State, count: usize)
+    requires { ⌜ (at + record-length ≤ length (now out)) × (count ≤ nodes) × Zeros (now out) at (at + record-length) ⌝ }
     ensures { λ _. ⌜ now (out .exit) ≡ splice (now (out .entry)) at (record-numbers s) ⌝ }
 {
     let signals = s.signals;
     let visits = s.visits;
     let streaks = s.streaks;
     let results = s.results;
+    let stored = capped(s.signal_count, layout::STORE);
     write_head(out, at, s);
-    write_signals(out, at + layout::RECORD_SIGNALS, signals);
-    write_visits(out, at + layout::RECORD_VISITS, visits);
-    write_streaks(out, at + layout::RECORD_STREAKS, streaks);
-    write_results(out, at + layout::RECORD_RESULTS, results);
+    write_signals(out, at + layout::RECORD_SIGNALS, signals, stored);
+    write_visits(out, at + layout::RECORD_VISITS, visits, count);
+    write_streaks(out, at + layout::RECORD_STREAKS, streaks, count);
+    write_results(out, at + layout::RECORD_RESULTS, results, count);
 }
 
-// The record that goes with an answer; zeros with a refusal.
-fn write_state(out: &mut [u64], at: usize, answer: Answer, s: State)
-    requires { ⌜ at + record-length ≤ length (now out) ⌝ }
-    ensures { λ _. ⌜ now (out .exit) ≡ splice (now (out .entry)) at (state-numbers answer s) ⌝ }
+fn is_refused(answer: Answer) -> bool
+    ensures { λ r. ⌜ r ≡ is-refused answer ⌝ }
 {
     match answer {
         Answer::Next {
             order: _,
             microsteps: _,
-        } => write_record(out, at, s),
+        } => false,
         Answer::Wants {
             node: _,
             field: _,
             from: _,
-        } => write_record(out, at, s),
-        Answer::Refused { number: _, item: _ } => {
-            let zeros = [0; layout::RECORD];
-            write(out, at, &zeros)
-        }
+        } => false,
+        Answer::Refused { number: _, item: _ } => true,
     }
 }
 
-pub fn write_decision(out: &mut [u64], d: Decision)
+// The answer's part of the buffer is zero.
+fn clear(out: &mut [u64])
     requires { ⌜ answer-length ≤ length (now out) ⌝ }
+    ensures { λ _. ⌜ now (out .exit) ≡ splice (now (out .entry)) 0 (replicate answer-length 0) ⌝ }
+{
+    let mut i: usize = 0;
+    while i < layout::ANSWER {
+        out[i] = 0;
+        i += 1;
+    }
+}
+
+// With the sheet's count of nodes. A refusal has no record: zeros are left.
+pub fn write_decision(out: &mut [u64], d: Decision, count: usize)
+    requires { ⌜ (answer-length ≤ length (now out)) × (count ≤ nodes) × Counted d ⌝ }
     ensures { λ _. ⌜ now (out .exit) ≡ splice (now (out .entry)) 0 (decision-numbers d) ⌝ }
 {
     let answer = d.answer;
@@ -208,9 +305,23 @@ pub fn write_decision(out: &mut [u64], d: Decision)
     let notes = d.notes;
     let endings = d.endings;
     let state = d.state;
+    clear(out);
     write(out, layout::ANSWER_KIND, &numbers);
     write(out, layout::ANSWER_NOTED, &counts);
-    write_notes(out, layout::ANSWER_NOTES, notes);
-    write_endings(out, layout::ANSWER_ENDINGS, endings);
-    write_state(out, layout::ANSWER_RECORD, answer, state);
+    write_notes(
+        out,
+        layout::ANSWER_NOTES,
+        notes,
+        capped(d.note_count, layout::NOTES),
+    );
+    write_endings(
+        out,
+        layout::ANSWER_ENDINGS,
+        endings,
+        capped(d.ending_count, layout::ENDINGS),
+    );
+    if is_refused(answer) {
+        return;
+    }
+    write_record(out, layout::ANSWER_RECORD, state, count);
 }

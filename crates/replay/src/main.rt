@@ -127,7 +127,7 @@ fn judged(
     answer: &[u64; ANSWER],
 ) -> Reader {
     let mut made = [0u64; ANSWER];
-    let receipt = host::kuxhoveza_transition(sheet, call, record, &mut made);
+    let receipt = host::kuxhoveza_transition(sheet, SHEET, call, record, &mut made);
     let mut next = counted(r, answer[0]);
     if receipt != 0 {
         return next;

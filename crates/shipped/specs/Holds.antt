@@ -3,12 +3,11 @@ use mathlib.Core.Path.{_≡_, refl, sym, _∙_, ap, subst}
 use mathlib.Core.Bool.{true, false, not}
 use mathlib.Core.List.{List, [], _∷_}
 use Prim.Native.Nat.{ℕ}
-use native.Mathlib.Omega.{arith}
 use lib.ListN.{length}
-use lib.Dec.{eqb, ltb}
+use lib.Dec.{eqb}
 use borrow.Author.Tests.{eqb-true}
 use Rattle.laws.specs.Bool.{if_then_else_, _and_, split}
-use Rattle.laws.specs.All.{All}
+use Rattle.laws.specs.All.{All, all-map}
 use Rattle.workflow.specs.View.{Workflow, workflow}
 use Rattle.kernel.specs.declared.Call.{Call}
 use Rattle.kernel.specs.Call.{Answer, next, wants, refused, Last, no-record, last, given-record, transition}
@@ -17,11 +16,12 @@ use Rattle.demand3.specs.Single.{Proper}
 use Rattle.demand3.specs.Proof.{holds, all-ordered, all-proper}
 use Rattle.demand3.specs.Calls.{history-more}
 use Rattle.host.specs.Fits.{Number}
-use Rattle.host.specs.Layout.{answer-kind, answer-length}
+use Rattle.host.specs.Layout.{written, bad-call, bad-record, answer-kind}
 use Rattle.host.specs.Read.{at, has-record, record-of, call-of, call-fits, record-fits}
 use Rattle.host.specs.Host.{receipt}
+use Rattle.host.specs.HostLaws.{receipt-not-3, receipt-by-call}
 use Rattle.shipped.specs.OneCall.{kind-of, Record-back, Told, told}
-use Rattle.shipped.specs.Shipped.{Made, is-answered, answer-in, record-in, Standing, nothing, numbers, standing, Gets, Follows, Ran, entry, entries, calls}
+use Rattle.shipped.specs.Shipped.{Made, is-answered, answer-in, record-in, Standing, nothing, numbers, standing, Gets, Follows, Right-lengths, Ran, entry, entries, calls}
 
 -- THE RECORD THAT STANDS, read; and its numbers fit.
 abbrev read : Standing → Last
@@ -43,12 +43,6 @@ unfolding _and_
 takes nothing made h t = rw h
 takes (numbers ns) made h t = rw (h .0, h .1, t)
 
-not-3 : (call given : List ℕ) (room : ℕ) → (has-record call and not (record-fits given)) ≡ false → receipt call given room ≡ 3 → ⊥
-unfolding receipt if_then_else_
-not-3 call given room h e =
-    split (ltb room answer-length) (λ a. let z : _≡_ {A = ℕ} 1 3 = rw a at e in omega arith)
-    (λ a. split (call-fits call) (λ b. let z : _≡_ {A = ℕ} 0 3 = rw (a, b, h) at e in omega arith) (λ b. let z : _≡_ {A = ℕ} 2 3 = rw (a, b) at e in omega arith))
-
 -- After an answer a, in a buffer b, stands its record or what stood before.
 abbrev after : (b : List ℕ) → Standing → Standing
 after b k = if eqb (at (answer-in b) answer-kind) 1 then numbers (record-in b) else k
@@ -59,17 +53,29 @@ stands-after (next a) b k e t h = rw e (ap last (sym (t .same)), t .fits)
 stands-after (wants n i f s) b k e t h = rw e (refl, h)
 stands-after (refused r i) b k e t h = rw e (refl, h)
 
+-- A call isn't turned away for its record; and where what it lends has the layout's lengths, only for its own numbers.
+record Taken (made : Made) : Type 0 where
+  pub not-3 : made .returned ≡ bad-record → ⊥
+  pub by-call : Right-lengths made → made .returned ≡ (if call-fits (made .call) then written else bad-call)
+
 module _ (sheet : List ℕ) (small : All Number sheet) where
   record Reads (h : List Made) : Type 0 where
     stands : standing-record (entries h) ≡ read (standing h)
     fine : Fine (standing h)
     same : entries h ≡ history (workflow sheet) [] (calls h)
-    taken-back : All (λ (made : Made). made .returned ≡ 3 → ⊥) h
+    taken-back : All Taken h
 
   -- One call more.
   module _ (made : Made) (before : List Made) (follows : Follows sheet made before) (so-far : Reads before) where
-    taken : All (λ (x : Made). x .returned ≡ 3 → ⊥) (made ∷ before)
-    taken = (λ e. not-3 (made .call) (made .given) _ (takes (standing before) made (follows .gets) (so-far .fine)) (sym (follows .returned-is) ∙ e), so-far .taken-back)
+    taken : All Taken (made ∷ before)
+    taken =
+        let t = takes (standing before) made (follows .gets) (so-far .fine) in (
+          record {
+            not-3 = λ e. receipt-not-3 (made .sheet-size) (made .call) (made .given) _ t (sym (follows .returned-is) ∙ e);
+            by-call = λ l. follows .returned-is ∙ receipt-by-call (made .sheet-size) (made .call) (made .given) _ t l;
+          },
+          so-far .taken-back,
+        )
 
     -- without an answer
     reads-on : is-answered made ≡ false → Reads (made ∷ before)
@@ -81,14 +87,14 @@ module _ (sheet : List ℕ) (small : All Number sheet) where
     its-answer = transition (workflow sheet) (given-record (has-record (made .call)) (record-of (made .given))) (call-of (made .call))
 
     module _ (e : is-answered made ≡ true) where
-      received : receipt (made .call) (made .given) (length (made .buffer)) ≡ 0
-      received = sym (follows .returned-is) ∙ eqb-true (made .returned) 0 e
+      received : receipt (made .sheet-size) (made .call) (made .given) (length (made .buffer)) ≡ written
+      received = sym (follows .returned-is) ∙ eqb-true (made .returned) written e
 
       given-is : given-record (has-record (made .call)) (record-of (made .given)) ≡ standing-record (entries before)
       given-is = gives (standing before) made (follows .gets) ∙ sym (so-far .stands)
 
       its-told : Told its-answer (made .after)
-      its-told = rw (follows .after-is) (told sheet (made .call) (made .given) (made .buffer) small received)
+      its-told = rw (follows .after-is) (told sheet (made .sheet-size) (made .call) (made .given) (made .buffer) small received)
 
       left : (standing-after its-answer (read (standing before)) ≡ read (after (made .after) (standing before))) × (Fine (after (made .after) (standing before)))
       left = stands-after its-answer (made .after) (standing before) (its-told .kind) (its-told .back) (so-far .fine)
@@ -127,5 +133,9 @@ module _ (sheet : List ℕ) (small : All Number sheet) where
   pub shipped-proper : (h : List Made) → Ran sheet h → All (λ (y : Entry). Proper (workflow sheet) (y .said)) (entries h)
   shipped-proper h ran = rw (is-history h ran) (all-proper (workflow sheet) (calls h))
 
-  pub never-3 : (h : List Made) → Ran sheet h → All (λ (made : Made). made .returned ≡ 3 → ⊥) h
-  never-3 h ran = reads h ran .taken-back
+  pub never-3 : (h : List Made) → Ran sheet h → All (λ (made : Made). made .returned ≡ bad-record → ⊥) h
+  never-3 h ran = all-map Taken (λ (made : Made). made .returned ≡ bad-record → ⊥) h (λ made t. t .not-3) (reads h ran .taken-back)
+
+  -- With the layout's lengths a call returns 0, or 2 where a number of its own doesn't fit.
+  pub never-turned : (h : List Made) → Ran sheet h → All (λ (made : Made). Right-lengths made → made .returned ≡ (if call-fits (made .call) then written else bad-call)) h
+  never-turned h ran = all-map Taken _ h (λ made t. t .by-call) (reads h ran .taken-back)

@@ -3,11 +3,9 @@ use mathlib.Core.Path.{_≡_, refl}
 use mathlib.Core.Bool.{Bool, true, false, not}
 use mathlib.Core.List.{List}
 use Prim.Native.Nat.{ℕ}
-use native.Mathlib.Omega.{arith}
 use lib.ListN.{length, drop}
-use lib.Dec.{ltb}
 use borrow.Author.Tests.{not-false}
-use Rattle.laws.specs.Bool.{if_then_else_, _and_, split}
+use Rattle.laws.specs.Bool.{_and_}
 use Rattle.laws.specs.All.{All}
 use Rattle.workflow.specs.View.{Workflow, workflow}
 use Rattle.model.specs.declared.State.{State}
@@ -17,10 +15,11 @@ use Rattle.kernel.specs.Decision.{decision-of}
 use Rattle.demand3.specs.Steps.{begun}
 use Rattle.demand3.specs.Single.{Proper, Single, Sized-last, every-call}
 use Rattle.host.specs.Fits.{Number, Fits, Answer-fits}
-use Rattle.host.specs.Layout.{answer-kind, answer-record, answer-length}
+use Rattle.host.specs.Layout.{written, answer-kind, answer-record}
 use Rattle.host.specs.Read.{at, has-record, record-of, call-of, call-fits, record-fits}
 use Rattle.host.specs.Write.{record-numbers, decision-numbers}
 use Rattle.host.specs.Host.{receipt, answered}
+use Rattle.host.specs.HostLaws.{receipt-call, receipt-record}
 use Rattle.host.specs.ReadAnswer.{answer-of-numbers}
 use Rattle.host.specs.Round.{fits-read, call-fits-read}
 use Rattle.host.specs.RoundBack.{record-back-of, numbers-fit}
@@ -74,7 +73,7 @@ answer-fits f (next a) t p = record { state = t; notes = p .few-notes; endings =
 answer-fits f (wants n i b s) t p = t
 answer-fits f (refused k i) t p = tt
 
-module _ (sheet call given buffer : List ℕ) (small : All Number sheet) (received : receipt call given (length buffer) ≡ 0) where
+module _ (sheet : List ℕ) (sheet-size : ℕ) (call given buffer : List ℕ) (small : All Number sheet) (received : receipt sheet-size call given (length buffer) ≡ written) where
   abbrev the-record : Last
   the-record = given-record (has-record call) (record-of given)
 
@@ -83,12 +82,7 @@ module _ (sheet call given buffer : List ℕ) (small : All Number sheet) (receiv
 
   -- the call and the record that goes with it fit
   tested : (call-fits call ≡ true) × ((has-record call and not (record-fits given)) ≡ false)
-  unfolding receipt if_then_else_
-  tested =
-      split (ltb (length buffer) answer-length) (λ h. let z : _≡_ {A = ℕ} 1 0 = rw h at received in absurd (omega arith))
-      (λ h. split (call-fits call)
-      (λ g. split (has-record call and not (record-fits given)) (λ i. let z : _≡_ {A = ℕ} 3 0 = rw (h, g, i) at received in absurd (omega arith)) (λ i. (g, i)))
-      (λ g. let z : _≡_ {A = ℕ} 2 0 = rw (h, g) at received in absurd (omega arith)))
+  tested = (receipt-call sheet-size call given (length buffer) received, receipt-record sheet-size call given (length buffer) received)
 
   given-fits : (b : Bool) → (b and not (record-fits given)) ≡ false → Last-fits (given-record b (record-of given))
   unfolding _and_
@@ -104,11 +98,11 @@ module _ (sheet call given buffer : List ℕ) (small : All Number sheet) (receiv
       (kept-fits (workflow sheet) the-record (call-of call) (sheet-fits sheet small) (call-fits-read call (tested .0)) (given-fits _ (tested .1))) (single .proper)
 
   -- THE CALL.
-  pub told : Told the-answer (answered sheet call given buffer)
+  pub told : Told the-answer (answered sheet sheet-size call given buffer)
   told =
-      let e = answered-begins sheet call given buffer received fits in
-      record { kind = rw e (kind-there the-answer); back = rw e (record-there the-answer fits); said = answered-read sheet call given buffer received fits }
+      let e = answered-begins sheet sheet-size call given buffer received fits in
+      record { kind = rw e (kind-there the-answer); back = rw e (record-there the-answer fits); said = answered-read sheet sheet-size call given buffer received fits }
 
   -- No refusal is 0, and the run check takes the next record.
-  pub proper : Proper (workflow sheet) (answer-of-numbers (answer-in (answered sheet call given buffer)))
+  pub proper : Proper (workflow sheet) (answer-of-numbers (answer-in (answered sheet sheet-size call given buffer)))
   proper = rw (told .said) (single .proper)

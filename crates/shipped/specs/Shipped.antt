@@ -12,22 +12,25 @@ use Rattle.laws.specs.Bool.{if_then_else_, _and_}
 use Rattle.kernel.specs.declared.Call.{Call}
 use Rattle.kernel.specs.Call.{given-record}
 use Rattle.demand3.specs.Demand3.{Entry}
-use Rattle.host.specs.Layout.{answer-kind, answer-record, answer-length}
+use Rattle.host.specs.Layout.{written, answer-kind, answer-record, answer-length}
 use Rattle.host.specs.Read.{at, has-record, record-of, call-of}
 use Rattle.host.specs.ReadAnswer.{answer-of-numbers}
 use Rattle.host.specs.Host.{receipt, answered}
+use Rattle.host.specs.HostLaws.{Lent}
 
--- ONE CALL of the function: the numbers of the call, the run record and the buffer that are lent to it; the number that it returns; and the buffer after it.
+-- ONE CALL of the function: the length that is passed for the sheet; the numbers of the call, the run record and the buffer that are lent to it; the number that it
+-- returns; and the buffer after it.
 pub record Made : Type 0 where
+  pub sheet-size : ℕ
   pub call : List ℕ
   pub given : List ℕ
   pub buffer : List ℕ
   pub returned : ℕ
   pub after : List ℕ
 
--- A call that returns 0 is answered, at the beginning of its buffer; one that returns 1, 2 or 3 has no answer.
+-- A call that returns 0 is answered, at the beginning of its buffer; one that returns another number has no answer.
 abbrev pub is-answered : Made → Bool
-is-answered made = eqb (made .returned) 0
+is-answered made = eqb (made .returned) written
 
 abbrev pub answer-in : (buffer : List ℕ) → List ℕ
 answer-in buffer = take answer-length buffer
@@ -57,8 +60,12 @@ Gets (numbers stand) made = (has-record (made .call) ≡ true) × (made .given �
 -- THE LIST. Each call gets the record that stands, and comes to what the function ensures.
 pub record Follows (sheet : List ℕ) (made : Made) (before : List Made) : Type 0 where
   pub gets : Gets (standing before) made
-  pub returned-is : made .returned ≡ receipt (made .call) (made .given) (length (made .buffer))
-  pub after-is : made .after ≡ answered sheet (made .call) (made .given) (made .buffer)
+  pub returned-is : made .returned ≡ receipt (made .sheet-size) (made .call) (made .given) (length (made .buffer))
+  pub after-is : made .after ≡ answered sheet (made .sheet-size) (made .call) (made .given) (made .buffer)
+
+-- What a call lends has the lengths of the layout.
+abbrev pub Right-lengths : Made → Type 0
+Right-lengths made = Lent (made .sheet-size) (length (made .call)) (length (made .given)) (length (made .buffer))
 
 unfoldable pub Ran : (sheet : List ℕ) → List Made → Type 0
 Ran sheet [] = Unit {0}

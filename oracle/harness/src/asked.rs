@@ -1,7 +1,9 @@
 //! A call as numbers, at the boundary for hosts (include/kuxhoveza.h).
 
-use calls::layout::{self, ANSWER, CALL, RECORD, SHEET};
-use calls::{numbers, Call};
+use std::borrow::Cow;
+
+use calls::layout::{self, ANSWER, CALL, RECORD, SHEET, VERDICT};
+use calls::{numbers, Call, Ceilings};
 use generator::fields::{self, Array, Field, FIELDS};
 use generator::rng::{Rng, EDGES, LONG_EDGES};
 
@@ -9,24 +11,38 @@ use crate::shrink::each_number;
 
 /// What stands in a buffer before a call.
 pub const BEFORE: u64 = 0xdead_beef_dead_beef;
+const BEFORE_VERDICT: u32 = 0xdead_beef;
 
-/// The exported function, as include/kuxhoveza.h has it.
-type Transition = fn(&[u32; SHEET], &[u64; CALL], &[u64; RECORD], &mut [u64]) -> u32;
+/// The exported functions, as include/kuxhoveza.h has them.
+type Transition = fn(&[u32], &[u64], &[u64], &mut [u64]) -> u32;
+type Verdict = fn(&[u32], &Ceilings, &mut [u32]) -> u32;
 
 /// Something behind the boundary.
 #[derive(Clone, Copy)]
 pub struct Boundary {
     pub name: &'static str,
     pub transition: Transition,
+    pub verdict: Verdict,
 }
 
 pub const PLAIN: Boundary = Boundary {
     name: "plain",
     transition: boundary::transition,
+    verdict: boundary::verdict,
 };
 
 /// What a boundary returns and leaves in the buffer.
-type Said = (u32, Vec<u64>);
+type Said<T = u64> = (u32, Vec<T>);
+
+/// How many numbers are lent.
+#[derive(Debug, Clone)]
+struct Lengths {
+    sheet: usize,
+    call: usize,
+    record: usize,
+    answer: usize,
+    verdict: usize,
+}
 
 /// A call's numbers; a record of zeros where it has none.
 #[derive(Clone)]
@@ -34,8 +50,19 @@ pub struct Asked {
     pub sheet: Box<[u32; SHEET]>,
     pub call: [u64; CALL],
     pub record: [u64; RECORD],
-    /// The buffer's length.
-    pub length: usize,
+    lengths: Lengths,
+}
+
+/// So many of the numbers; zeros behind them where it is more.
+fn lent<T: Copy + Default>(numbers: &[T], length: usize) -> Cow<'_, [T]> {
+    match numbers.get(..length) {
+        Some(numbers) => Cow::Borrowed(numbers),
+        None => {
+            let mut longer = numbers.to_vec();
+            longer.resize(length, T::default());
+            Cow::Owned(longer)
+        }
+    }
 }
 
 impl Asked {
@@ -45,7 +72,13 @@ impl Asked {
             sheet: numbers::sheet(&call.workflow),
             call: numbers::call(call).try_into().expect("a call"),
             record: record.map_or([0; RECORD], |record| record.try_into().expect("a record")),
-            length: ANSWER,
+            lengths: Lengths {
+                sheet: SHEET,
+                call: CALL,
+                record: RECORD,
+                answer: ANSWER,
+                verdict: VERDICT,
+            },
         }
     }
 
@@ -55,8 +88,25 @@ impl Asked {
     }
 
     pub fn said(&self, boundary: &Boundary) -> Said {
-        let mut buffer = vec![BEFORE; self.length];
-        let said = (boundary.transition)(&self.sheet, &self.call, &self.record, &mut buffer);
+        let mut buffer = vec![BEFORE; self.lengths.answer];
+        let sheet = lent(&self.sheet[..], self.lengths.sheet);
+        let call = lent(&self.call, self.lengths.call);
+        let record = lent(&self.record, self.lengths.record);
+        let said = (boundary.transition)(&sheet, &call, &record, &mut buffer);
+        (said, buffer)
+    }
+
+    /// The verdict on the sheet alone, under the lowest bits of the call's ceilings.
+    fn verdict(&self, boundary: &Boundary) -> Said<u32> {
+        let mut buffer = vec![BEFORE_VERDICT; self.lengths.verdict];
+        let ceilings = Ceilings {
+            nodes: self.call[layout::CALL_CEILING_NODES] as u32,
+            visits: self.call[layout::CALL_CEILING_VISITS] as u32,
+            activations: self.call[layout::CALL_CEILING_ACTIVATIONS] as u32,
+            attempts: self.call[layout::CALL_CEILING_ATTEMPTS] as u32,
+        };
+        let sheet = lent(&self.sheet[..], self.lengths.sheet);
+        let said = (boundary.verdict)(&sheet, &ceilings, &mut buffer);
         (said, buffer)
     }
 
@@ -65,10 +115,17 @@ impl Asked {
         fields::above(&self.call, self.has_record().then_some(&self.record))
     }
 
-    /// What the table of fields says that the boundary must return; none where there is an answer.
+    /// What the lengths and the table of fields say that the boundary must return; none where there is an answer.
     fn due(&self) -> Option<u32> {
-        if self.length < ANSWER {
-            return Some(layout::SHORT_BUFFER as u32);
+        let lengths = &self.lengths;
+        let by_length = [
+            (lengths.sheet != SHEET, layout::BAD_SHEET_LENGTH),
+            (lengths.call != CALL, layout::BAD_CALL_LENGTH),
+            (lengths.record != RECORD, layout::BAD_RECORD_LENGTH),
+            (lengths.answer < ANSWER, layout::SHORT_BUFFER),
+        ];
+        if let Some((_, said)) = by_length.iter().find(|(holds, _)| *holds) {
+            return Some(*said as u32);
         }
         let said = |(field, _): (&Field, u64)| match field.array {
             Array::Call => layout::BAD_CALL as u32,
@@ -77,7 +134,15 @@ impl Asked {
         self.above().map(said).min()
     }
 
-    /// Some numbers changed to what their fields may or may not hold, and a buffer of any length. At times every output
+    /// The same of the verdict.
+    fn due_verdict(&self) -> Option<u32> {
+        if self.lengths.sheet != SHEET {
+            return Some(layout::BAD_SHEET_LENGTH as u32);
+        }
+        (self.lengths.verdict < VERDICT).then_some(layout::SHORT_BUFFER as u32)
+    }
+
+    /// Some numbers changed to what their fields may or may not hold, and buffers of any length. At times every output
     /// is an error first, so that all its numbers have a meaning.
     pub fn damage(&mut self, rng: &mut Rng) {
         if rng.one_in(4) {
@@ -103,10 +168,34 @@ impl Asked {
             }
         }
         if rng.percent(30) {
-            self.length = rng.below(2 * ANSWER);
+            self.lengths.answer = rng.below(2 * ANSWER);
+            self.lengths.verdict = rng.below(2 * VERDICT);
         }
         if rng.percent(10) {
-            self.length = ANSWER - 1 + rng.below(3);
+            self.lengths.answer = ANSWER - 1 + rng.below(3);
+        }
+    }
+
+    /// Arrays of other lengths, and at times damage too.
+    pub fn stretch(&mut self, rng: &mut Rng) {
+        let other = |rng: &mut Rng, length| match rng.below(4) {
+            0 => 0,
+            1 => length - 1,
+            2 => length + 1,
+            _ => rng.below(2 * length),
+        };
+        let lengths = &mut self.lengths;
+        if rng.one_in(3) {
+            lengths.sheet = other(rng, SHEET);
+        }
+        if rng.one_in(3) {
+            lengths.call = other(rng, CALL);
+        }
+        if rng.one_in(3) {
+            lengths.record = other(rng, RECORD);
+        }
+        if rng.one_in(2) {
+            self.damage(rng);
         }
     }
 
@@ -122,7 +211,8 @@ impl Asked {
         };
     }
 
-    /// What all say alike and the table of fields too, with the buffer as it was where there is no answer; or how they part.
+    /// What all say alike and the table of fields too, with the buffers as they were where nothing is due in them; or how
+    /// they part.
     pub fn compare(&self, boundaries: &[Boundary]) -> Result<u32, String> {
         match self.parted(boundaries) {
             None => Ok(self.said(&boundaries[0]).0),
@@ -132,19 +222,19 @@ impl Asked {
 
     fn parted(&self, boundaries: &[Boundary]) -> Option<String> {
         let said: Vec<Said> = boundaries.iter().map(|it| self.said(it)).collect();
-        let due = self.due();
-        let wrong = |(said, buffer): &Said| match *said as usize {
-            layout::WRITTEN => due.is_some(),
-            _ => due != Some(*said) || buffer.iter().any(|number| *number != BEFORE),
-        };
-        if said.iter().all(|it| !wrong(it) && *it == said[0]) {
-            return None;
-        }
-        let names = boundaries.iter().zip(&said);
-        let said: Vec<String> = names
-            .map(|(boundary, (said, _))| format!("{} says {said}", boundary.name))
-            .collect();
-        Some(format!("{}; due: {due:?}", said.join(", ")))
+        let verdicts: Vec<Said<u32>> = boundaries.iter().map(|it| self.verdict(it)).collect();
+        let parted = [
+            parting(boundaries, &said, self.due(), BEFORE, ANSWER),
+            parting(
+                boundaries,
+                &verdicts,
+                self.due_verdict(),
+                BEFORE_VERDICT,
+                VERDICT,
+            )
+            .map(|how| format!("verdict: {how}")),
+        ];
+        parted.into_iter().flatten().next()
     }
 
     /// The difference, with every number that may be smaller smaller.
@@ -167,6 +257,32 @@ impl Asked {
         numbers::write_array(&mut lines, numbers::KIND_CALL, &small.call);
         numbers::write_array(&mut lines, numbers::KIND_RECORD, &small.record);
         let said = small.parted(boundaries).unwrap_or_default();
-        format!("a buffer of {}: {said}\n{lines}", small.length)
+        format!("{:?}: {said}\n{lines}", small.lengths)
     }
+}
+
+/// How boundaries part from each other or from what is due: a number to return with the buffer as it was before, or else
+/// so many numbers written and those behind them as before.
+fn parting<T: Copy + PartialEq>(
+    boundaries: &[Boundary],
+    said: &[Said<T>],
+    due: Option<u32>,
+    before: T,
+    written: usize,
+) -> Option<String> {
+    let (due_said, kept) = match due {
+        None => (layout::WRITTEN as u32, written),
+        Some(due) => (due, 0),
+    };
+    let right = |(said, buffer): &Said<T>| {
+        *said == due_said && buffer.iter().skip(kept).all(|number| *number == before)
+    };
+    if said.iter().all(|it| right(it) && *it == said[0]) {
+        return None;
+    }
+    let names = boundaries.iter().zip(said);
+    let said: Vec<String> = names
+        .map(|(boundary, (said, _))| format!("{} says {said}", boundary.name))
+        .collect();
+    Some(format!("{}; due: {due:?}", said.join(", ")))
 }

@@ -142,13 +142,14 @@ impl Comparison {
         }
     }
 
-    /// A copy of the call at the boundary: with numbers changed and another buffer, or one field raised above what it
-    /// holds.
+    /// A copy of the call at the boundary: with numbers changed and other buffers, with one field raised above what it
+    /// holds, or with arrays of other lengths.
     fn probe(&self, rng: &mut Rng, call: &Call, counts: &mut Counts) -> Option<String> {
         let mut asked = Asked::of(call);
-        match rng.one_in(2) {
-            true => asked.damage(rng),
-            false => asked.raise(rng),
+        match rng.below(5) {
+            0 | 1 => asked.damage(rng),
+            2 | 3 => asked.raise(rng),
+            _ => asked.stretch(rng),
         }
         counts.count_above(&asked);
         match asked.compare(&self.boundaries) {
@@ -365,7 +366,8 @@ pub fn recorded(files: &[String]) -> Result<bool, String> {
 mod tests {
     use std::sync::atomic::AtomicU64;
 
-    use calls::layout::{ANSWER, CALL, CALL_SIGNAL, RECORD, SHEET};
+    use calls::layout::{BAD_RECORD, CALL, CALL_SIGNAL, RECORD, SHEET, SHORT_BUFFER};
+    use calls::Ceilings;
 
     use super::*;
     use crate::asked;
@@ -500,38 +502,76 @@ mod tests {
     }
 
     /// Reads a signal in 8 bits.
-    fn cut_signal(
-        sheet: &[u32; SHEET],
-        call: &[u64; CALL],
-        record: &[u64; RECORD],
-        answer: &mut [u64],
-    ) -> u32 {
-        let mut call = *call;
-        call[CALL_SIGNAL] %= 256;
+    fn cut_signal(sheet: &[u32], call: &[u64], record: &[u64], answer: &mut [u64]) -> u32 {
+        let mut call = call.to_vec();
+        if let Some(signal) = call.get_mut(CALL_SIGNAL) {
+            *signal %= 256;
+        }
         boundary::transition(sheet, &call, record, answer)
     }
 
     /// Writes into the buffer before it refuses.
-    fn early(
-        sheet: &[u32; SHEET],
-        call: &[u64; CALL],
-        record: &[u64; RECORD],
-        answer: &mut [u64],
-    ) -> u32 {
+    fn early(sheet: &[u32], call: &[u64], record: &[u64], answer: &mut [u64]) -> u32 {
         let said = boundary::transition(sheet, call, record, answer);
-        if said == 3 && answer.len() >= ANSWER {
+        if said == BAD_RECORD as u32 {
             answer[0] = 0;
         }
         said
     }
 
+    /// Takes longer arrays.
+    fn longer(sheet: &[u32], call: &[u64], record: &[u64], answer: &mut [u64]) -> u32 {
+        let sheet = &sheet[..sheet.len().min(SHEET)];
+        let call = &call[..call.len().min(CALL)];
+        let record = &record[..record.len().min(RECORD)];
+        boundary::transition(sheet, call, record, answer)
+    }
+
+    /// Tests the record's length before the call's.
+    fn record_first(sheet: &[u32], call: &[u64], record: &[u64], answer: &mut [u64]) -> u32 {
+        match record.len() == RECORD {
+            true => boundary::transition(sheet, call, record, answer),
+            false => boundary::transition(sheet, &[0; CALL], record, answer),
+        }
+    }
+
+    /// Writes the verdict's first number only.
+    fn half(sheet: &[u32], ceilings: &Ceilings, verdict: &mut [u32]) -> u32 {
+        let before = verdict.get(1).copied();
+        let said = boundary::verdict(sheet, ceilings, verdict);
+        if let Some(before) = before {
+            verdict[1] = before;
+        }
+        said
+    }
+
+    /// Says that a sheet of another length is a short buffer.
+    fn no_length(sheet: &[u32], ceilings: &Ceilings, verdict: &mut [u32]) -> u32 {
+        match sheet.len() == SHEET {
+            true => boundary::verdict(sheet, ceilings, verdict),
+            false => SHORT_BUFFER as u32,
+        }
+    }
+
     #[test]
     fn wrong_boundaries_are_found() {
-        for transition in [cut_signal, early] {
-            let wrong = Boundary {
-                name: "wrong",
-                transition,
-            };
+        let named = |transition, verdict| Boundary {
+            name: "wrong",
+            transition,
+            verdict,
+        };
+        let asked::Boundary {
+            transition,
+            verdict,
+            ..
+        } = asked::PLAIN;
+        for wrong in [
+            named(cut_signal, verdict),
+            named(early, verdict),
+            named(longer, verdict),
+            named(record_first, verdict),
+            named(transition, no_length),
+        ] {
             for boundaries in [vec![asked::PLAIN, wrong], vec![wrong]] {
                 let comparison = Comparison {
                     boundaries,
@@ -540,5 +580,10 @@ mod tests {
                 assert_eq!(comparison.seed(1, CALLS).1, 1);
             }
         }
+        let comparison = Comparison {
+            boundaries: vec![asked::PLAIN, named(transition, half)],
+            ..plain()
+        };
+        assert_eq!(comparison.seed(1, CALLS).1, 1);
     }
 }

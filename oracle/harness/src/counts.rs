@@ -81,7 +81,7 @@ impl Counts {
     pub fn missing(&self) -> Vec<String> {
         let fields = FIELDS.iter().map(Field::key);
         let numbers = ABOVE.map(|(_, name)| format!("above its field: number {name}"));
-        let said = (0..=3).map(|said| format!("boundary says {said}"));
+        let said = (0..=6).map(|said| format!("boundary says {said}"));
         let at_boundary = fields.chain(numbers).chain(said);
         let keys = required().into_iter().chain(at_boundary);
         keys.filter(|key| self.of(key) == 0).collect()

@@ -8,6 +8,7 @@ use crate::asked::{Asked, Boundary};
 pub const LIBRARY: Boundary = Boundary {
     name: "library",
     transition: raw::transition,
+    verdict: |sheet, it, verdict| raw::verdict(sheet, ceilings(it), verdict),
 };
 
 /// The library's answer, of which every number is one that the number form has; and its verdict on the sheet alone is
@@ -21,7 +22,8 @@ pub fn answer(call: &Call) -> Result<Answer, String> {
     let answer = numbers::answer_of(&buffer)
         .filter(|answer| numbers::answer(answer).is_some_and(|numbers| numbers == buffer))
         .ok_or_else(|| format!("is no answer: {buffer:?}"))?;
-    let verdict = verdict(&asked.sheet, ceilings(call));
+    let verdict = verdict(&asked.sheet, ceilings(&call.ceilings))
+        .map_err(|fault| format!("the verdict has the fault {fault:?}"))?;
     let expected = match answer {
         Answer::Refused { number, item } if number <= 20 => Some(Refusal { number, item }),
         _ => None,
@@ -32,11 +34,11 @@ pub fn answer(call: &Call) -> Result<Answer, String> {
     }
 }
 
-fn ceilings(call: &Call) -> Ceilings {
+fn ceilings(it: &calls::Ceilings) -> Ceilings {
     Ceilings {
-        nodes: call.ceilings.nodes,
-        visits: call.ceilings.visits,
-        activations: call.ceilings.activations,
-        attempts: call.ceilings.attempts,
+        nodes: it.nodes,
+        visits: it.visits,
+        activations: it.activations,
+        attempts: it.attempts,
     }
 }

@@ -1,4 +1,4 @@
-//! Kuxhoveza for hosts in Rust: safe calls of the library's two functions, without heap. docs/NUMBERS.md says what the
+//! Kuxhoveza for hosts in Rust: safe calls of the library's functions, without heap. docs/NUMBERS.md says what the
 //! numbers mean.
 //!
 //! A run is a list of calls on one sheet, each on the record of the last accepted one:
@@ -209,6 +209,8 @@ pub enum Fault {
     Call,
     /// A number of the record that its field can't hold.
     Record,
+    /// The library that is linked has another layout than this crate (`layout_matches`): no call of it means anything.
+    Layout,
 }
 
 /// Why a sheet or a call is refused: the number and the item of document 01.
@@ -230,17 +232,32 @@ pub struct Ceilings {
 /// What is lent where there is no record.
 static NO_RECORD: [u64; layout::RECORD] = [0; layout::RECORD];
 
+/// Whether the library that is linked has the layout that this crate was built with. Where it hasn't, every function
+/// answers with `Fault::Layout`.
+pub fn layout_matches() -> bool {
+    raw::layout_version() as usize == layout::LAYOUT_VERSION
+}
+
 /// One call, on a record or on none.
 pub fn transition(sheet: &Sheet, call: &Call, record: Option<&Record>) -> Result<Answer, Fault> {
+    if !layout_matches() {
+        return Err(Fault::Layout);
+    }
     let mut call = *call;
     call[layout::CALL_HAS_RECORD] = record.is_some().into();
     let lent = record.map_or(&NO_RECORD, Record::numbers);
     let mut answer = [0; layout::ANSWER];
-    match raw::transition(sheet, &call, lent, &mut answer) as usize {
-        layout::WRITTEN => Ok(read(&answer)),
+    written(raw::transition(sheet, &call, lent, &mut answer))?;
+    Ok(read(&answer))
+}
+
+/// What the library returned. It can't be a length but where the layout is another.
+fn written(said: u32) -> Result<(), Fault> {
+    match said as usize {
+        layout::WRITTEN => Ok(()),
         layout::BAD_CALL => Err(Fault::Call),
         layout::BAD_RECORD => Err(Fault::Record),
-        other => unreachable!("the library said {other}"),
+        _ => Err(Fault::Layout),
     }
 }
 
@@ -267,11 +284,38 @@ fn read(answer: &[u64; layout::ANSWER]) -> Answer {
     }
 }
 
-/// The verdict on a sheet alone.
-pub fn verdict(sheet: &Sheet, ceilings: Ceilings) -> Option<Refusal> {
-    let said = raw::verdict(sheet, ceilings);
-    (said != 0).then_some(Refusal {
-        number: (said / 256) as u32,
-        item: (said % 256) as u32,
-    })
+/// The verdict on a sheet alone: none where it is accepted. The only fault is `Fault::Layout`.
+pub fn verdict(sheet: &Sheet, ceilings: Ceilings) -> Result<Option<Refusal>, Fault> {
+    if !layout_matches() {
+        return Err(Fault::Layout);
+    }
+    let mut verdict = [0; layout::VERDICT];
+    written(raw::verdict(sheet, ceilings, &mut verdict))?;
+    let refusal = Refusal {
+        number: verdict[layout::VERDICT_NUMBER],
+        item: verdict[layout::VERDICT_ITEM],
+    };
+    Ok((refusal.number != 0).then_some(refusal))
+}
+
+#[cfg(test)]
+mod tests {
+    use super::*;
+
+    #[test]
+    fn a_length_is_a_fault_of_the_layout() {
+        use layout::*;
+        assert_eq!(written(WRITTEN as u32), Ok(()));
+        assert_eq!(written(BAD_CALL as u32), Err(Fault::Call));
+        assert_eq!(written(BAD_RECORD as u32), Err(Fault::Record));
+        for said in [
+            SHORT_BUFFER,
+            BAD_SHEET_LENGTH,
+            BAD_CALL_LENGTH,
+            BAD_RECORD_LENGTH,
+            99,
+        ] {
+            assert_eq!(written(said as u32), Err(Fault::Layout));
+        }
+    }
 }

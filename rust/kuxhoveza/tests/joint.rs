@@ -3,8 +3,8 @@
 use calls::{numbers, State};
 use generator::joint;
 use kuxhoveza::{
-    layout, raw, transition, verdict, Answer, Call, Ceilings, Ending, Fault, Note, Order, Record,
-    Refusal,
+    layout, layout_matches, raw, transition, verdict, Answer, Call, Ceilings, Ending, Fault, Note,
+    Order, Record, Refusal,
 };
 
 const CEILINGS: Ceilings = Ceilings {
@@ -121,7 +121,7 @@ fn joint_a() {
         let record = case.call.state.as_ref().map(record_numbers);
         let mut answer = [7; layout::ANSWER];
         let lent = record.unwrap_or([0; layout::RECORD]);
-        assert_eq!(raw::transition(&sheet, &call, &lent, &mut answer), 0);
+        assert_eq!(raw::transition(&sheet[..], &call, &lent, &mut answer), 0);
         let expected = numbers::answer(&case.expected).unwrap();
         assert_eq!(answer[..], expected, "{}", case.name);
         let record = record.map(Record::from_numbers);
@@ -188,8 +188,9 @@ fn refused_numbers() {
     assert_eq!(transition(&sheet, &call, Some(&stored)), Err(Fault::Record));
 
     let mut buffer = vec![7; layout::ANSWER + 1];
-    let said =
-        |call: &Call, buffer: &mut [u64]| raw::transition(&sheet, call, &record, buffer) as usize;
+    let said = |call: &Call, buffer: &mut [u64]| {
+        raw::transition(&sheet[..], call, &record, buffer) as usize
+    };
     let short = &mut buffer[..layout::ANSWER - 1];
     assert_eq!(said(&call, short), layout::SHORT_BUFFER);
     assert_eq!(said(&bad, &mut buffer), layout::BAD_CALL);
@@ -201,14 +202,92 @@ fn refused_numbers() {
     assert_eq!(buffer[layout::ANSWER], 7);
 }
 
+/// Each array shorter and longer than the layout says, and each buffer shorter. The first of the tests decides, whatever
+/// else is wrong, and nothing is written.
+#[test]
+fn lengths() {
+    let start = joint::call(&joint::sheet(), None, joint::start());
+    let lent = numbers::sheet(&joint::sheet());
+    let (mut sheet, mut call) = (lent.to_vec(), call_numbers(&start).to_vec());
+    let mut record = vec![0; layout::RECORD];
+    sheet.push(0);
+    call.push(0);
+    record.push(0);
+    let right = [layout::SHEET, layout::CALL, layout::RECORD, layout::ANSWER];
+    let of = |length: usize| [0, 1, length / 2, length - 1, length, length + 1];
+    let [sheets, calls, records, buffers] = right.map(of);
+    for mark in [0, 1, 2] {
+        call[layout::CALL_HAS_RECORD] = mark;
+        record[layout::RECORD_VISITS] = if mark == 1 { u64::MAX } else { 0 };
+        for lengths in sheets.iter().flat_map(|s| {
+            let with_call = calls.iter().map(move |c| (*s, *c));
+            with_call.flat_map(|(s, c)| records.iter().map(move |r| [s, c, *r]))
+        }) {
+            let [s, c, r] = lengths;
+            for b in buffers {
+                let mut buffer = vec![7; b];
+                let said = raw::transition(&sheet[..s], &call[..c], &record[..r], &mut buffer);
+                let due = match () {
+                    _ if s != layout::SHEET => layout::BAD_SHEET_LENGTH,
+                    _ if c != layout::CALL => layout::BAD_CALL_LENGTH,
+                    _ if r != layout::RECORD => layout::BAD_RECORD_LENGTH,
+                    _ if b < layout::ANSWER => layout::SHORT_BUFFER,
+                    _ if mark == 2 => layout::BAD_CALL,
+                    _ if mark == 1 => layout::BAD_RECORD,
+                    _ => layout::WRITTEN,
+                };
+                assert_eq!(said as usize, due, "lengths {lengths:?} and {b}");
+                let kept = if due == layout::WRITTEN {
+                    layout::ANSWER
+                } else {
+                    0
+                };
+                assert!(buffer[kept..].iter().all(|number| *number == 7));
+            }
+        }
+    }
+}
+
+#[test]
+fn one_layout() {
+    assert_eq!(raw::layout_version() as usize, layout::LAYOUT_VERSION);
+    assert!(layout_matches());
+}
+
 #[test]
 fn verdicts() {
     let mut sheet = numbers::sheet(&joint::sheet());
-    assert_eq!(verdict(&sheet, CEILINGS), None);
+    assert_eq!(verdict(&sheet, CEILINGS), Ok(None));
+    let mut buffer = [7; layout::VERDICT + 1];
+    assert_eq!(raw::verdict(&sheet[..], CEILINGS, &mut buffer), 0);
+    assert_eq!(buffer, [0, 0, 7]);
     sheet[layout::SHEET_LIMIT_LIMIT] = 3;
     let refusal = Refusal {
         number: 12,
         item: 1,
     };
-    assert_eq!(verdict(&sheet, CEILINGS), Some(refusal));
+    assert_eq!(verdict(&sheet, CEILINGS), Ok(Some(refusal)));
+    assert_eq!(raw::verdict(&sheet[..], CEILINGS, &mut buffer), 0);
+    assert_eq!(buffer, [12, 1, 7]);
+
+    let mut longer = sheet.to_vec();
+    longer.push(0);
+    for s in [0, 1, layout::SHEET - 1, layout::SHEET, layout::SHEET + 1] {
+        for b in 0..=layout::VERDICT + 1 {
+            let mut buffer = vec![7; b];
+            let said = raw::verdict(&longer[..s], CEILINGS, &mut buffer) as usize;
+            let due = match () {
+                _ if s != layout::SHEET => layout::BAD_SHEET_LENGTH,
+                _ if b < layout::VERDICT => layout::SHORT_BUFFER,
+                _ => layout::WRITTEN,
+            };
+            assert_eq!(said, due, "lengths {s} and {b}");
+            let kept = if due == layout::WRITTEN {
+                layout::VERDICT
+            } else {
+                0
+            };
+            assert!(buffer[kept..].iter().all(|number| *number == 7));
+        }
+    }
 }

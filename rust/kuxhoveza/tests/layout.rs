@@ -40,6 +40,7 @@ fn filled_record(round: u64) -> [u64; RECORD] {
 #[test]
 fn lengths() {
     assert_eq!([SHEET, CALL, RECORD, ANSWER], [4169, 38, 918, 1386]);
+    assert_eq!([VERDICT, VERDICT_NUMBER, VERDICT_ITEM], [2, 0, 1]);
     assert_eq!(
         [SHEET, CALL, RECORD, ANSWER],
         [

@@ -6,13 +6,13 @@ use Rattle.host.proofs.read.invocation.Tie as tie
 returns : tie.Need-returns
 unfolding invocation-of
 returns c =
-    let c2 = c .before .before in
-    let c4 = c2 .before .before in
-    let c6 = c4 .before .before in
-    let c8 = c6 .before .before in
-    let c10 = c8 .before .before in
-    let c12 = c10 .before .before in
-    simp (← c12 .kept .ensures, ← c10 .number-at .ensures, ← c8 .number-at2 .ensures, ← c6 .number-at3 .ensures, ← c4 .number-at4 .ensures, ← c2 .number-at5 .ensures, ← c .number-at6 .ensures)
+    let c1 = c .before in
+    let c2 = c1 .before in
+    let c3 = c2 .before in
+    let c4 = c3 .before in
+    let c5 = c4 .before in
+    let c6 = c5 .before in
+    simp (← c6 .kept .ensures, ← c5 .number-at .ensures, ← c4 .number-at2 .ensures, ← c3 .number-at3 .ensures, ← c2 .number-at4 .ensures, ← c1 .number-at5 .ensures, ← c .number-at6 .ensures)
 
 pub invocation-spec : {M : Type 1} → statement M
 invocation-spec =

@@ -5,16 +5,8 @@ use Rattle.host.proofs.read.limits.Tie as tie
 
 returns : tie.Need-returns
 unfolding limits-of
-returns c =
-    let c2 = c .before .before in
-    let c4 = c2 .before .before in
-    simp (← c4 .number-at .ensures, ← c2 .number-at2 .ensures, ← c .number-at3 .ensures)
+returns c = simp (← c .before .before .number-at .ensures, ← c .before .number-at2 .ensures, ← c .number-at3 .ensures)
 
 pub limits-spec : {M : Type 1} → statement M
 limits-spec =
-    tie.close
-    (tie.spec
-    (λ c κs. search needs)
-    (λ c κs. search needs)
-    (λ c κs. search needs)
-    returns)
+    tie.close (tie.spec (λ c κs. search needs) (λ c κs. search needs) (λ c κs. search needs) returns)

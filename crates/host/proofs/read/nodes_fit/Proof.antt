@@ -1,7 +1,6 @@
 use borrow.Author.Needs.{needs}
 use Prim.Native.Nat.{_-_}
 use Rattle.laws.specs.Every.{below}
-use Rattle.host.specs.Layout.{nodes}
 use Rattle.host.specs.Read.{node-fits}
 use Rattle.host.specs.ReadLaws.{Gather, gather-start, gather-more, gather-end}
 use Rattle.host.proofs.read.nodes_fit.Statement.{statement}
@@ -9,10 +8,10 @@ use Rattle.host.proofs.read.nodes_fit.Tie as tie
 
 -- what was found so far, with what is left, is the answer
 abbrev Inv-loop : tie.InvT-loop
-Inv-loop xs fit₀ i₀ fit i = Gather (node-fits xs) nodes i fit (below nodes (node-fits xs))
+Inv-loop xs rows fit₀ i₀ fit i = Gather (node-fits xs) rows i fit (below rows (node-fits xs))
 
 abbrev μ-loop : tie.MeasureT-loop
-μ-loop xs fit₀ i₀ fit i = nodes - i
+μ-loop xs rows fit₀ i₀ fit i = rows - i
 
 loop-again : tie.Need-loop-again Inv-loop μ-loop
 loop-again c = gather-more (c .before .before .loop .inv) (c .node-fits .ensures) (c .before .loop-test .taken)

@@ -5,12 +5,7 @@ use Rattle.host.proofs.read.position.Tie as tie
 
 returns : tie.Need-returns
 unfolding position-of
-returns c = simp (← c .before .before .number-at .ensures, ← c .number-at2 .ensures)
+returns c = simp (← c .before .number-at .ensures, ← c .number-at2 .ensures)
 
 pub position-spec : {M : Type 1} → statement M
-position-spec =
-    tie.close
-    (tie.spec
-    (λ c κs. search needs)
-    (λ c κs. search needs)
-    returns)
+position-spec = tie.close (tie.spec (λ c κs. search needs) (λ c κs. search needs) returns)

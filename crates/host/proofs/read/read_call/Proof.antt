@@ -6,12 +6,12 @@ use Rattle.host.proofs.read.read_call.Tie as tie
 returns : tie.Need-returns
 unfolding call-of
 returns c =
-    let c2 = c .before .before in
+    let c1 = c .before in
+    let c2 = c1 .before in
     let c3 = c2 .before in
     let c4 = c3 .before in
     let c5 = c4 .before in
-    let c6 = c5 .before in
-    simp (← c6 .ceilings .ensures, ← c5 .limits .ensures, ← c4 .event .ensures, ← c3 .mapping .ensures, ← c2 .mapping2 .ensures, ← c .number-at .ensures)
+    simp (← c5 .ceilings .ensures, ← c4 .limits .ensures, ← c3 .event .ensures, ← c2 .mapping .ensures, ← c1 .mapping2 .ensures, ← c .number-at .ensures)
 
 pub read-call-spec : {M : Type 1} → statement M
 read-call-spec =

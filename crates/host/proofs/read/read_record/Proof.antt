@@ -1,22 +1,23 @@
 use Rattle.host.specs.Read.{record-of}
+use Rattle.host.specs.ByCount.{record-rows}
 use borrow.Author.Needs.{needs}
 use Rattle.host.proofs.read.read_record.Statement.{statement}
 use Rattle.host.proofs.read.read_record.Tie as tie
 
 returns : tie.Need-returns
-unfolding record-of
+unfolding record-rows record-of
 returns c =
-    let c2 = c .before .before in
-    let c4 = c2 .before .before in
-    let c6 = c4 .before .before in
-    let c10 = c6 .before .before .before .before in
+    let c1 = c .before in
+    let c2 = c1 .before in
+    let c3 = c2 .before in
+    let c6 = c3 .before .before .before in
+    let c7 = c6 .before in
+    let c8 = c7 .before in
+    let c9 = c8 .before in
+    let c10 = c9 .before in
     let c11 = c10 .before in
     let c12 = c11 .before in
-    let c13 = c12 .before in
-    let c14 = c13 .before in
-    let c15 = c14 .before in
-    let c16 = c15 .before in
-    simp (← c16 .signals .ensures, ← c15 .visits .ensures, ← c14 .streaks .ensures, ← c13 .results .ensures, ← c12 .position .ensures, ← c11 .invocation .ensures, ← c10 .run-result .ensures, ← c6 .number-at .ensures, ← c4 .number-at2 .ensures, ← c2 .number-at3 .ensures, ← c .number-at4 .ensures)
+    simp (← c12 .signals .ensures, ← c11 .visits .ensures, ← c10 .streaks .ensures, ← c9 .results .ensures, ← c8 .position .ensures, ← c7 .invocation .ensures, ← c6 .run-result .ensures, ← c3 .number-at .ensures, ← c2 .number-at2 .ensures, ← c1 .number-at3 .ensures, ← c .number-at4 .ensures)
 
 pub read-record-spec : {M : Type 1} → statement M
 read-record-spec =

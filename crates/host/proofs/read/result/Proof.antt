@@ -5,10 +5,7 @@ use Rattle.host.proofs.read.result.Tie as tie
 
 returns : tie.Need-returns
 unfolding result-of
-returns c =
-    let c2 = c .before .before in
-    let c4 = c2 .before .before in
-    simp (← c4 .output .ensures, ← c2 .number-at .ensures, ← c .number-at2 .ensures)
+returns c = simp (← c .before .before .output .ensures, ← c .before .number-at .ensures, ← c .number-at2 .ensures)
 
 pub result-spec : {M : Type 1} → statement M
 result-spec =

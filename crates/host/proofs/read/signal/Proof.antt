@@ -6,10 +6,10 @@ use Rattle.host.proofs.read.signal.Tie as tie
 returns : tie.Need-returns
 unfolding signal-of
 returns c =
-    let c2 = c .before .before in
-    let c4 = c2 .before .before in
-    let c6 = c4 .before .before in
-    simp (← c6 .number-at .ensures, ← c4 .number-at2 .ensures, ← c2 .number-at3 .ensures, ← c .number-at4 .ensures)
+    let c1 = c .before in
+    let c2 = c1 .before in
+    let c3 = c2 .before in
+    simp (← c3 .number-at .ensures, ← c2 .number-at2 .ensures, ← c1 .number-at3 .ensures, ← c .number-at4 .ensures)
 
 pub signal-spec : {M : Type 1} → statement M
 signal-spec =

@@ -5,7 +5,7 @@ use Rattle.host.proofs.read.streak.Tie as tie
 
 returns : tie.Need-returns
 unfolding streak-of
-returns c = simp (← c .before .before .number-at .ensures, ← c .number-at2 .ensures)
+returns c = simp (← c .before .number-at .ensures, ← c .number-at2 .ensures)
 
 pub streak-spec : {M : Type 1} → statement M
 streak-spec =

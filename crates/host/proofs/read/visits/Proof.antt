@@ -1,20 +1,22 @@
 use borrow.Author.Needs.{needs}
+use mathlib.Core.Path.{refl}
 use Prim.Native.Nat.{_-_}
-use Rattle.laws.specs.Splice.{Filled, fill-start, fill-next, fill-end}
+use Rattle.model.specs.Record.{no-visits}
 use Rattle.host.specs.Layout.{nodes}
 use Rattle.host.specs.Read.{visits-of}
+use Rattle.host.specs.ByCount.{Rows-read, rows-start, rows-next, rows-end}
 use Rattle.host.proofs.read.visits.Statement.{statement}
 use Rattle.host.proofs.read.visits.Tie as tie
 
 -- the slots before i are read
 abbrev Inv-loop : tie.InvT-loop
-Inv-loop xs a₀ i₀ a i = Filled (visits-of xs) nodes i a₀ a
+Inv-loop xs rows a₀ i₀ a i = Rows-read (visits-of xs) no-visits nodes rows i a₀ a
 
 abbrev μ-loop : tie.MeasureT-loop
-μ-loop xs a₀ i₀ a i = nodes - i
+μ-loop xs rows a₀ i₀ a i = rows - i
 
 loop-again : tie.Need-loop-again Inv-loop μ-loop
-loop-again c = fill-next (c .before .before .loop .inv) (c .visits-of .ensures) (c .before .loop-test .taken)
+loop-again c = rows-next (c .before .before .loop .inv) (c .visits-of .ensures) (c .before .loop-test .taken)
 
 pub visits-spec : {M : Type 1} → statement M
 visits-spec =
@@ -22,11 +24,11 @@ visits-spec =
     (tie.spec
     Inv-loop
     μ-loop
-    (λ c. fill-start (search needs))
+    (λ c. rows-start refl (search needs))
     (λ c κs. search needs)
     (λ c. search needs)
     (λ c. search needs)
     (λ c. search needs)
     (λ c. search needs)
     loop-again
-    (λ c. fill-end (c .before .loop .inv) (c .loop-test .left)))
+    (λ c. rows-end (c .before .loop .inv) (c .loop-test .left)))

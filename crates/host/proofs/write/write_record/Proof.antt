@@ -1,7 +1,10 @@
 use native.Mathlib.Omega.{arith}
 use mathlib.Core.Path.{refl}
-use Rattle.host.specs.Write.{record-numbers, signal-numbers, visits-numbers, streak-numbers, result-numbers}
-use Rattle.host.specs.WriteLaws.{Whole, wrote-first, wrote-next, flat-size, length-head, length-signal, length-visits, length-streak, length-result}
+use Prim.Native.Nat.{_-_}
+use Rattle.host.specs.Layout.{record-length, record-signals, record-visits, record-streaks, record-results, signal-width, streak-width, result-width}
+use Rattle.host.specs.Write.{record-numbers}
+use Rattle.host.specs.WriteLaws.{Whole, length-head, length-signal, length-visits, length-streak, length-result}
+use Rattle.host.specs.WriteRows.{wrote-none, wrote-part, wrote-rows, wrote-all, signal-zeros, visits-zeros, streak-zeros, result-zeros}
 use Rattle.laws.specs.Arrays.{length-field}
 use borrow.Author.Needs.{needs}
 use Rattle.host.proofs.write.write_record.Statement.{statement}
@@ -18,19 +21,21 @@ returns c =
     let c10 = c6 .before .before .before .before in
     let c14 = c10 .before .before .before .before in
     let c18 = c14 .before .before .before .before in
-    let c25 = c18 .before .before .before .before .before .before .before in
-    let h = whole c25 in
-    let w1 = wrote-first refl (length-head _) (c18 .write-head .ensures) in
-    let w2 = wrote-next w1 refl (flat-size signal-numbers 64 length-signal (c25 .args .s .signals) (h .signals)) (omega arith) (omega (arith, c25 .pre)) (c14 .write-signals .ensures) in
-    let w3 = wrote-next w2 refl (flat-size visits-numbers 64 length-visits (c25 .args .s .visits) (h .visits)) (omega arith) (omega (arith, c25 .pre)) (c10 .write-visits .ensures) in
-    let w4 = wrote-next w3 refl (flat-size streak-numbers 64 length-streak (c25 .args .s .streaks) (h .streaks)) (omega arith) (omega (arith, c25 .pre)) (c6 .write-streaks .ensures) in
-    let w5 = wrote-next w4 refl (flat-size result-numbers 64 length-result (c25 .args .s .results) (h .results)) (omega arith) (omega (arith, c25 .pre)) (c2 .write-results .ensures) in
-    w5 .so-far
+    let c26 = c18 .before .before .before .before .before .before .before .before in
+    let h = whole c26 in
+    let w0 = wrote-none _ (c26 .args .at) record-length (c26 .pre .0) (c26 .pre .2) in
+    let w1 = wrote-part w0 {m = record-length - record-signals} refl (length-head _) (omega arith) (omega arith) (c18 .write-head .ensures) in
+    let w2 = wrote-rows w1 signal-width {m = record-length - record-visits} length-signal signal-zeros (h .signals) (omega arith) (omega arith) (c14 .write-signals .ensures) in
+    let w3 = wrote-rows w2 1 {m = record-length - record-streaks} length-visits visits-zeros (h .visits) (omega arith) (omega arith) (c10 .write-visits .ensures) in
+    let w4 = wrote-rows w3 streak-width {m = record-length - record-results} length-streak streak-zeros (h .streaks) (omega arith) (omega arith) (c6 .write-streaks .ensures) in
+    let w5 = wrote-rows w4 result-width {m = 0} length-result result-zeros (h .results) (omega arith) (omega arith) (c2 .write-results .ensures) in
+    wrote-all w5 refl
 
 pub write-record-spec : {M : Type 1} → statement M
 write-record-spec =
     tie.close
     (tie.spec
+    (λ c κs. search needs)
     (λ c κs. search needs)
     (λ c. search needs)
     (λ c κs. search needs)

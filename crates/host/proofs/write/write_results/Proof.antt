@@ -2,27 +2,47 @@ use borrow.Author.Needs.{needs}
 use native.Mathlib.Omega.{arith}
 use mathlib.Core.Path.{_∙_, ap}
 use Prim.Native.Nat.{_+_, _*_, _-_}
-use Rattle.laws.specs.Splice.{splice, Written, write-start, write-next, write-end}
+use Rattle.laws.specs.Splice.{splice}
+use Rattle.model.specs.Record.{no-node-result}
 use Rattle.host.specs.Layout.{nodes, result-width}
 use Rattle.host.specs.Write.{result-numbers}
 use Rattle.host.specs.WriteLaws.{length-result, result-row}
+use Rattle.host.specs.WriteRows.{Joined, joined-start, joined-next, joined-end, Writing, writing-start, writing-next, writing-end}
 use Rattle.host.proofs.write.write_results.Statement.{statement}
 use Rattle.host.proofs.write.write_results.Tie as tie
 
--- the numbers of the rows before i are written
+-- where the digits of the rows from the count to k are 0, they are empty
 abbrev Inv-loop : tie.InvT-loop
-Inv-loop out₀ at xs i₀ out i = Written result-numbers result-width xs at i out₀ out
+Inv-loop out at count xs digits₀ k₀ digits k = Joined no-node-result xs nodes count k digits
 
 abbrev μ-loop : tie.MeasureT-loop
-μ-loop out₀ at xs i₀ out i = nodes - i
+μ-loop out at count xs digits₀ k₀ digits k = nodes - k
 
-loop-again : tie.Need-loop-again Inv-loop μ-loop
-loop-again c =
+-- the numbers of the rows before i are written
+abbrev Inv-loop2 : tie.InvT-loop2
+Inv-loop2 out₀ at count xs digits k rows i₀ out i = Writing result-numbers result-width no-node-result xs nodes at rows i out₀ out
+
+abbrev μ-loop2 : tie.MeasureT-loop2
+μ-loop2 out₀ at count xs digits k rows i₀ out i = rows - i
+
+loop-again : tie.Need-loop-again Inv-loop μ-loop Inv-loop2 μ-loop2
+loop-again c = joined-next (c .before .before .before .loop .inv) _ (c .before .before .loop-test .taken) (c .result-digits .ensures)
+
+loop2-holds : tie.Need-loop2-holds Inv-loop μ-loop Inv-loop2 μ-loop2
+loop2-holds c =
+    let c2 = c .before .before in
+    writing-start length-result (c2 .loop .inv .long) (joined-end (c2 .loop .inv) (c .rows-of .ensures) (c2 .before .before .pre .1) (c .before .loop-test .left))
+
+loop2-again : tie.Need-loop2-again Inv-loop μ-loop Inv-loop2 μ-loop2
+loop2-again c =
     let c2 = c .before .before in
     let c7 = c2 .before .before .before .before .before in
-    let c10 = c7 .before .before .before in
-    let c12 = c10 .before .before in
-    write-next (c10 .loop .inv) _ {k = c12 .args .at + result-width * c10 .loop .i} (omega arith) (search needs) (omega arith) (c2 .write .ensures ∙ ap (splice (c10 .loop .out) (c12 .args .at + result-width * c10 .loop .i)) (result-row _ _ (c7 .numbers .ensures)))
+    let c9 = c7 .before .before in
+    let c10 = c9 .before in
+    let at = c10 .before .before .before .before .before .args .at in
+    let inv = c10 .loop2 .inv in
+    writing-next inv _ {k = at + result-width * c10 .loop2 .i} (omega arith) (c9 .loop2-test .taken) (omega (arith, inv .past .low))
+    (c2 .write .ensures ∙ ap (splice (c10 .loop2 .out) (at + result-width * c10 .loop2 .i)) (result-row _ _ (c7 .numbers .ensures)))
 
 pub write-results-spec : {M : Type 1} → statement M
 write-results-spec =
@@ -30,22 +50,32 @@ write-results-spec =
     (tie.spec
     Inv-loop
     μ-loop
-    (λ c. write-start length-result)
-    (λ c. search needs)
-    (λ c. search needs)
-    (λ c κs. search needs)
-    (λ c. search needs)
-    (λ c. search needs)
-    (λ c. search needs)
-    (λ c. search needs)
-    (λ c. search needs)
-    (λ c. search needs)
-    (λ c. search needs)
+    Inv-loop2
+    μ-loop2
+    (λ c. joined-start (search needs))
     (λ c. search needs)
     (λ c. search needs)
     (λ c κs. search needs)
     (λ c. search needs)
     (λ c. search needs)
     loop-again
-    (λ c. c .before .loop .inv .long)
-    (λ c. write-end (c .before .loop .inv) (search needs)))
+    (λ c κs. search needs)
+    loop2-holds
+    (λ c. search needs)
+    (λ c. search needs)
+    (λ c κs. search needs)
+    (λ c. search needs)
+    (λ c. search needs)
+    (λ c. search needs)
+    (λ c. search needs)
+    (λ c. search needs)
+    (λ c. search needs)
+    (λ c. search needs)
+    (λ c. search needs)
+    (λ c. search needs)
+    (λ c κs. search needs)
+    (λ c. search needs)
+    (λ c. search needs)
+    loop2-again
+    (λ c. c .before .loop2 .inv .written .long)
+    (λ c. writing-end (c .before .loop2 .inv) (c .loop2-test .left)))
