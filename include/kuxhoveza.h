@@ -1,4 +1,6 @@
-/* Kuxhoveza for hosts. docs/NUMBERS.md says what the numbers mean; every offset counts numbers, not bytes.
+/* Kuxhoveza for hosts. docs/NUMBERS.md says what the numbers mean; every offset counts numbers, not bytes. The library is
+ * target/libkuxhoveza.a, which `sh tools/archive` proves and writes; it calls memcpy, memmove and memset and nothing else
+ * outside itself.
  *
  * The functions keep nothing between calls, need no initialisation and may be called from several threads at once. A host
  * first compares kuxhoveza_layout_version() with KUXHOVEZA_LAYOUT_VERSION. */

@@ -1,5 +1,5 @@
 //! Writes the header's constants as Rust's, and links the library that KUXHOVEZA_LIB names: an archive, or a shared
-//! library. By default it is the proved archive that `rt staticlib host` writes.
+//! library. By default it is the proved archive that `sh tools/archive` writes.
 
 mod constants;
 
@@ -12,7 +12,7 @@ fn main() {
     constants::write("../../include/kuxhoveza.h");
     println!("cargo:rerun-if-env-changed=KUXHOVEZA_LIB");
     let here = PathBuf::from(env::var("CARGO_MANIFEST_DIR").unwrap());
-    let default = here.join("../../target/staticlib/libhost.a");
+    let default = here.join("../../target/libkuxhoveza.a");
     link(&env::var_os("KUXHOVEZA_LIB").map_or(default, PathBuf::from));
 }
 
