@@ -4,12 +4,13 @@ use std::fmt::Write;
 use std::path::{Path, PathBuf};
 use std::{env, fs};
 
-const FILES: [&str; 6] = [
+const FILES: [&str; 7] = [
     "lib.rs",
     "boxed.rs",
     "event.rs",
     "graph.rs",
     "machine.rs",
+    "sheet.rs",
     "snapshot.rs",
 ];
 

@@ -3,7 +3,7 @@
 use std::borrow::Cow;
 
 use calls::layout::{self, ANSWER, CALL, RECORD, SHEET, VERDICT};
-use calls::{numbers, Call, Ceilings};
+use calls::{numbers, Answer, Call, Ceilings};
 use generator::fields::{self, Array, Field, FIELDS};
 use generator::rng::{Rng, EDGES, LONG_EDGES};
 
@@ -29,6 +29,13 @@ pub const PLAIN: Boundary = Boundary {
     name: "plain",
     transition: boundary::transition,
     verdict: boundary::verdict,
+};
+
+/// The plain reading with the lent sheet read in place.
+pub const IN_PLACE: Boundary = Boundary {
+    name: "in place",
+    transition: boundary::transition_in_place,
+    verdict: boundary::verdict_in_place,
 };
 
 /// What a boundary returns and leaves in the buffer.
@@ -94,6 +101,26 @@ impl Asked {
         let record = lent(&self.record, self.lengths.record);
         let said = (boundary.transition)(&sheet, &call, &record, &mut buffer);
         (said, buffer)
+    }
+
+    /// The answer, of which every number is one that the number form has; and the verdict on the sheet alone is the same.
+    pub fn answer(&self, boundary: &Boundary) -> Result<Answer, String> {
+        let (said, buffer) = self.said(boundary);
+        if said != layout::WRITTEN as u32 {
+            return Err(format!("says {said}"));
+        }
+        let answer = numbers::answer_of(&buffer)
+            .filter(|answer| numbers::answer(answer).is_some_and(|numbers| numbers == buffer))
+            .ok_or_else(|| format!("is no answer: {buffer:?}"))?;
+        let verdict = self.verdict(boundary);
+        let expected = match answer {
+            Answer::Refused { number, item } if number <= 20 => vec![number, item],
+            _ => vec![0, 0],
+        };
+        match verdict == (layout::WRITTEN as u32, expected) {
+            true => Ok(answer),
+            false => Err(format!("{answer:?}, but the verdict alone is {verdict:?}")),
+        }
     }
 
     /// The verdict on the sheet alone, under the lowest bits of the call's ceilings.

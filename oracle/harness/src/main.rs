@@ -65,13 +65,19 @@ fn arguments(words: &[String]) -> Result<Arguments, String> {
     }
 }
 
+/// The plain reading with the sheet read in place.
+const IN_PLACE: compare::Side = compare::Side {
+    name: "in place",
+    answer: |call| asked::Asked::of(call).answer(&asked::IN_PLACE),
+};
+
 /// The original against the plain reading.
 fn comparison(arguments: &Arguments) -> Comparison {
     Comparison {
         plain: plain::answer,
         reason: Reason::of,
-        sides: Vec::new(),
-        boundaries: vec![asked::PLAIN],
+        sides: vec![IN_PLACE],
+        boundaries: vec![asked::PLAIN, asked::IN_PLACE],
         generator: Generator::new,
         fast: arguments.fast,
         first: arguments.first,
@@ -89,8 +95,8 @@ fn library(arguments: &Arguments) -> Result<bool, String> {
         answer: library::answer,
     };
     let comparison = Comparison {
-        sides: vec![library],
-        boundaries: vec![asked::PLAIN, library::LIBRARY],
+        sides: vec![IN_PLACE, library],
+        boundaries: vec![asked::PLAIN, asked::IN_PLACE, library::LIBRARY],
         generator: Generator::of_all_lengths,
         ..comparison(arguments)
     };

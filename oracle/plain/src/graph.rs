@@ -1,10 +1,8 @@
 //! The sheet: its form (refusal 20) and rules W01 to W16.
 
-use calls::{
-    Action, Ceilings, Declared, Limit, Node, Route, Workflow, ACTIONS, DECLARED, LIMITS, NODES,
-    NONE, ROUTES,
-};
+use calls::{Action, Ceilings, Node, ACTIONS, DECLARED, LIMITS, NODES, NONE, ROUTES};
 
+use super::sheet::{Rows, Sheet};
 use super::{refused, refused_at, Step};
 
 pub(super) const ACTIVITY: u32 = 1;
@@ -21,8 +19,8 @@ pub(super) const REPEATABLE: u32 = 0;
 const RECONCILABLE: u32 = 2;
 
 /// A sheet that passed, with the place of each node's first route and limit row and of each action's first declared row.
-pub(super) struct Graph<'a> {
-    workflow: &'a Workflow,
+pub(super) struct Graph<S> {
+    sheet: S,
     routes_of: [u16; NODES + 1],
     limits_of: [u16; NODES + 1],
     declared_of: [u16; ACTIONS + 1],
@@ -51,10 +49,10 @@ impl Outcomes {
     }
 }
 
-impl<'a> Graph<'a> {
+impl<S: Sheet> Graph<S> {
     /// The sheet's form, then its rules in order.
-    pub(super) fn load(workflow: &'a Workflow, ceilings: &Ceilings) -> Step<Graph<'a>> {
-        let Some(graph) = form(workflow) else {
+    pub(super) fn load(sheet: S, ceilings: &Ceilings) -> Step<Graph<S>> {
+        let Some(graph) = form(sheet) else {
             return Err(refused(20));
         };
         graph.validate(ceilings)?;
@@ -62,36 +60,36 @@ impl<'a> Graph<'a> {
     }
 
     pub(super) fn start(&self) -> u32 {
-        self.workflow.start
+        self.sheet.start()
     }
 
     pub(super) fn max_visits_per_node(&self) -> u32 {
-        self.workflow.max_visits_per_node
+        self.sheet.max_visits_per_node()
     }
 
     pub(super) fn max_activations(&self) -> u32 {
-        self.workflow.max_activations
+        self.sheet.max_activations()
     }
 
     pub(super) fn node_count(&self) -> usize {
-        self.workflow.node_count as usize
+        self.sheet.node_count() as usize
     }
 
     /// The nodes that are there.
-    pub(super) fn nodes(&self) -> &'a [Node] {
-        &self.workflow.nodes[..self.node_count()]
+    pub(super) fn nodes(&self) -> S::Nodes {
+        self.sheet.nodes().part(0..self.node_count())
     }
 
-    pub(super) fn node(&self, node: u32) -> &'a Node {
-        &self.workflow.nodes[node as usize]
+    pub(super) fn node(&self, node: u32) -> Node {
+        self.sheet.nodes().row(node as usize)
     }
 
-    pub(super) fn action(&self, action: u32) -> &'a Action {
-        &self.workflow.actions[action as usize]
+    pub(super) fn action(&self, action: u32) -> Action {
+        self.sheet.actions().row(action as usize)
     }
 
     pub(super) fn is_0_2(&self) -> bool {
-        self.workflow.format == 2
+        self.sheet.format() == 2
     }
 
     /// Whether a step that gives up with no `failed` route is stuck rather than ending the run.
@@ -104,33 +102,33 @@ impl<'a> Graph<'a> {
         self.is_0_2()
     }
 
-    fn routes(&self, node: usize) -> &'a [Route] {
+    fn routes(&self, node: usize) -> S::Routes {
         let range = self.routes_of[node] as usize..self.routes_of[node + 1] as usize;
-        &self.workflow.routes[range]
+        self.sheet.routes().part(range)
     }
 
-    fn limits(&self, node: usize) -> &'a [Limit] {
+    fn limits(&self, node: usize) -> S::Limits {
         let range = self.limits_of[node] as usize..self.limits_of[node + 1] as usize;
-        &self.workflow.limits[range]
+        self.sheet.limits().part(range)
     }
 
-    fn declared(&self, action: usize) -> &'a [Declared] {
+    fn declared(&self, action: usize) -> S::Declared {
         let range = self.declared_of[action] as usize..self.declared_of[action + 1] as usize;
-        &self.workflow.declared[range]
+        self.sheet.declared().part(range)
     }
 
     /// The target of an outcome at a node.
     pub(super) fn route(&self, node: u32, outcome: u32) -> Option<u32> {
         let rows = self.routes(node as usize);
-        let found = rows.binary_search_by_key(&outcome, |row| row.outcome);
-        found.ok().map(|i| rows[i].target)
+        let found = rows.find(outcome, |row| row.outcome);
+        found.map(|row| row.target)
     }
 
     /// The loop limit of an outcome at a node.
     pub(super) fn limit(&self, node: u32, outcome: u32) -> Option<u32> {
         let rows = self.limits(node as usize);
-        let found = rows.binary_search_by_key(&outcome, |row| row.outcome);
-        found.ok().map(|i| rows[i].limit)
+        let found = rows.find(outcome, |row| row.outcome);
+        found.map(|row| row.limit)
     }
 
     pub(super) fn declares(&self, action: u32, outcome: u32) -> bool {
@@ -140,19 +138,19 @@ impl<'a> Graph<'a> {
 
     fn validate(&self, ceilings: &Ceilings) -> Step<()> {
         self.rule_1()?;
-        let workflow = self.workflow;
-        if workflow.node_count == 0 || workflow.node_count > ceilings.nodes {
+        let sheet = self.sheet;
+        if sheet.node_count() == 0 || sheet.node_count() > ceilings.nodes {
             return Err(refused(3));
         }
-        if workflow.start >= workflow.node_count {
+        if sheet.start() >= sheet.node_count() {
             return Err(refused(5));
         }
-        if !(1..=ceilings.visits).contains(&workflow.max_visits_per_node)
-            || !(1..=ceilings.activations).contains(&workflow.max_activations)
+        if !(1..=ceilings.visits).contains(&sheet.max_visits_per_node())
+            || !(1..=ceilings.activations).contains(&sheet.max_activations())
         {
             return Err(refused(6));
         }
-        for action in 0..workflow.action_count as usize {
+        for action in 0..sheet.action_count() as usize {
             self.action_policy(action, ceilings)?;
         }
         for (id, node) in self.nodes().iter().enumerate() {
@@ -177,7 +175,7 @@ impl<'a> Graph<'a> {
     }
 
     fn rule_1(&self) -> Step<()> {
-        match self.workflow.format {
+        match self.sheet.format() {
             1 => match self.nodes().iter().position(|node| node.has_params == 1) {
                 Some(id) => Err(refused_at(1, id as u32)),
                 None => Ok(()),
@@ -189,7 +187,7 @@ impl<'a> Graph<'a> {
 
     /// Rules W16 and W07 for one action.
     fn action_policy(&self, id: usize, ceilings: &Ceilings) -> Step<()> {
-        let action = &self.workflow.actions[id];
+        let action = self.action(id as u32);
         if action.effect == RECONCILABLE {
             return Err(refused_at(16, id as u32));
         }
@@ -198,7 +196,7 @@ impl<'a> Graph<'a> {
             return Err(refused_at(7, id as u32));
         }
         let mut seen = Outcomes::default();
-        for row in declared {
+        for row in declared.iter() {
             let reserved = row.outcome == FAILED || (self.is_0_2() && row.outcome == EXHAUSTED);
             if reserved || !seen.insert(row.outcome) {
                 return Err(refused_at(7, id as u32));
@@ -211,18 +209,18 @@ impl<'a> Graph<'a> {
     }
 
     /// In format 2 a node routes `exhausted` only when it has loop limits.
-    fn may_route_exhausted(&self, node: &Node) -> bool {
+    fn may_route_exhausted(&self, node: Node) -> bool {
         self.is_0_2() && node.has_limits == 1
     }
 
     /// Rule W08 for one activity node.
-    fn activity_fits(&self, id: usize, node: &Node) -> bool {
-        if node.action >= self.workflow.action_count {
+    fn activity_fits(&self, id: usize, node: Node) -> bool {
+        if node.action >= self.sheet.action_count() {
             return false;
         }
         let routed = self.routed(id);
         let mut allowed = Outcomes::default();
-        for row in self.declared(node.action as usize) {
+        for row in self.declared(node.action as usize).iter() {
             allowed.insert(row.outcome);
         }
         if !allowed.within(&routed) {
@@ -236,7 +234,7 @@ impl<'a> Graph<'a> {
     }
 
     /// Rule W09 for one await-signal node.
-    fn waiter_fits(&self, id: usize, node: &Node) -> bool {
+    fn waiter_fits(&self, id: usize, node: Node) -> bool {
         let rows = self.routes(id);
         let exhausted = rows.iter().any(|row| row.outcome == EXHAUSTED);
         !rows.is_empty()
@@ -251,8 +249,8 @@ impl<'a> Graph<'a> {
             return false;
         }
         let routed = self.routed(id);
-        let ceiling = self.workflow.max_visits_per_node;
-        for row in rows {
+        let ceiling = self.sheet.max_visits_per_node();
+        for row in rows.iter() {
             if row.outcome == EXHAUSTED || !routed.contains(row.outcome) {
                 return false;
             }
@@ -265,14 +263,14 @@ impl<'a> Graph<'a> {
 
     fn routed(&self, id: usize) -> Outcomes {
         let mut routed = Outcomes::default();
-        for row in self.routes(id) {
+        for row in self.routes(id).iter() {
             routed.insert(row.outcome);
         }
         routed
     }
 
     fn targets_exist(&self, id: usize) -> bool {
-        let count = self.workflow.node_count;
+        let count = self.sheet.node_count();
         self.routes(id).iter().all(|row| row.target < count)
     }
 
@@ -285,19 +283,19 @@ impl<'a> Graph<'a> {
             if is_end(node) {
                 ends |= 1 << id;
             }
-            for row in self.routes(id) {
+            for row in self.routes(id).iter() {
                 targets[id] |= 1 << row.target;
                 sources[row.target as usize] |= 1 << id;
             }
         }
-        self.all_in(14, closure(1 << self.workflow.start, &targets))?;
+        self.all_in(14, closure(1 << self.sheet.start(), &targets))?;
         self.all_in(15, closure(ends, &sources))
     }
 
     /// Refuses with the lowest node that is not in the set.
     fn all_in(&self, number: u32, set: u64) -> Step<()> {
         let first = (!set).trailing_zeros();
-        if first < self.workflow.node_count {
+        if first < self.sheet.node_count() {
             return Err(refused_at(number, first));
         }
         Ok(())
@@ -318,34 +316,35 @@ fn closure(set: u64, arrows: &[u64; NODES]) -> u64 {
     reached
 }
 
-fn is_end(node: &Node) -> bool {
+fn is_end(node: Node) -> bool {
     node.kind == COMPLETE || node.kind == FAIL
 }
 
 /// The sheet with its rows found, if its form is right.
-fn form(workflow: &Workflow) -> Option<Graph<'_>> {
-    let nodes = within(workflow.node_count, NODES)?;
-    let routes = within(workflow.route_count, ROUTES)?;
-    let limits = within(workflow.limit_count, LIMITS)?;
-    let actions = within(workflow.action_count, ACTIONS)?;
-    let declared = within(workflow.declared_count, DECLARED)?;
-    let used = &workflow.nodes[..nodes];
+fn form<S: Sheet>(sheet: S) -> Option<Graph<S>> {
+    let nodes = within(sheet.node_count(), NODES)?;
+    let routes = within(sheet.route_count(), ROUTES)?;
+    let limits = within(sheet.limit_count(), LIMITS)?;
+    let actions = within(sheet.action_count(), ACTIONS)?;
+    let declared = within(sheet.declared_count(), DECLARED)?;
+    let used = sheet.nodes().part(0..nodes);
     if !used.iter().all(node_fits) {
         return None;
     }
-    if !workflow.actions[..actions]
+    let actions_used = sheet.actions().part(0..actions);
+    if !actions_used
         .iter()
         .all(|action| action.effect <= RECONCILABLE)
     {
         return None;
     }
-    let routes_of = index(&workflow.routes[..routes], nodes, true, |row| {
+    let routes_of = index(sheet.routes().part(0..routes), nodes, true, |row| {
         (row.node, row.outcome)
     })?;
-    let limits_of = index(&workflow.limits[..limits], nodes, true, |row| {
+    let limits_of = index(sheet.limits().part(0..limits), nodes, true, |row| {
         (row.node, row.outcome)
     })?;
-    let declared_of = index(&workflow.declared[..declared], actions, false, |row| {
+    let declared_of = index(sheet.declared().part(0..declared), actions, false, |row| {
         (row.action, row.outcome)
     })?;
     let has_routes = |id: usize| routes_of[id] < routes_of[id + 1];
@@ -355,11 +354,11 @@ fn form(workflow: &Workflow) -> Option<Graph<'_>> {
             return None;
         }
     }
-    if !unused_are_zero(workflow) {
+    if sheet.unused_bits() != 0 {
         return None;
     }
     Some(Graph {
-        workflow,
+        sheet,
         routes_of,
         limits_of,
         declared_of,
@@ -373,7 +372,7 @@ fn within(count: u32, capacity: usize) -> Option<usize> {
 
 /// A known kind, marks of 0 or 1, a signal of 8 bits, a code of 16, and nothing in the fields that the kind doesn't
 /// use. An action that isn't there is for rule 8.
-fn node_fits(node: &Node) -> bool {
+fn node_fits(node: Node) -> bool {
     let activity = node.action | node.has_params;
     let fail = node.code | node.detail;
     if node.has_params > 1 || node.has_limits > 1 || node.signal > 255 || node.code > 65535 {
@@ -390,11 +389,11 @@ fn node_fits(node: &Node) -> bool {
 
 /// The place of the first row of each owner, if the rows' owners are there and rise, and no outcome is 255. Strict: rows
 /// of one owner rise by outcome too.
-fn index<T>(
-    rows: &[T],
+fn index<R: Rows>(
+    rows: R,
     owners: usize,
     strict: bool,
-    key: impl Fn(&T) -> (u32, u32),
+    key: impl Fn(R::Row) -> (u32, u32),
 ) -> Option<[u16; NODES + 1]> {
     let mut first = [rows.len() as u16; NODES + 1];
     let mut next = 0;
@@ -414,52 +413,4 @@ fn index<T>(
         last = (owner, outcome);
     }
     Some(first)
-}
-
-/// One pass over every slot at or past its count.
-fn unused_are_zero(workflow: &Workflow) -> bool {
-    let nodes = &workflow.nodes[workflow.node_count as usize..];
-    let routes = &workflow.routes[workflow.route_count as usize..];
-    let limits = &workflow.limits[workflow.limit_count as usize..];
-    let actions = &workflow.actions[workflow.action_count as usize..];
-    let declared = &workflow.declared[workflow.declared_count as usize..];
-    let any = bits(nodes, |x| {
-        [
-            x.kind,
-            x.action,
-            x.has_params,
-            x.signal,
-            x.code,
-            x.detail,
-            x.has_limits,
-        ]
-    }) | bits(routes, |x| [x.node, x.outcome, x.target])
-        | bits(limits, |x| [x.node, x.outcome, x.limit])
-        | bits(actions, |x| [x.effect, x.max_attempts])
-        | bits(declared, |x| [x.action, x.outcome]);
-    any == 0
-}
-
-/// The bits that are set in any field of the rows. Four rows at a time, each field by itself: so it runs on whole
-/// vectors.
-#[inline(always)]
-fn bits<T, const N: usize>(rows: &[T], fields: impl Fn(&T) -> [u32; N]) -> u32 {
-    let mut any = [[0; N]; 4];
-    let mut chunks = rows.chunks_exact(4);
-    for chunk in &mut chunks {
-        for (any, row) in any.iter_mut().zip(chunk) {
-            add(any, fields(row));
-        }
-    }
-    for row in chunks.remainder() {
-        add(&mut any[0], fields(row));
-    }
-    any.iter().flatten().fold(0, |any, field| any | field)
-}
-
-#[inline(always)]
-fn add<const N: usize>(any: &mut [u32; N], fields: [u32; N]) {
-    for (any, field) in any.iter_mut().zip(fields) {
-        *any |= field;
-    }
 }

@@ -1,4 +1,5 @@
-//! A plain reading of document 01 on structs behind references: no JSON, no heap.
+//! A plain reading of document 01 on structs behind references: no JSON, no heap. The sheet may also be read in place, in
+//! the numbers that a host lends.
 //!
 //! It is the second reading beside the original and the baseline for speed. It is total: whatever numbers the structs
 //! hold, there is an answer.
@@ -7,13 +8,15 @@ mod boxed;
 mod event;
 mod graph;
 mod machine;
+mod sheet;
 mod snapshot;
 
-use calls::{Ceilings, Ending, Event, Limits, Mappings, Note, Order, State, Workflow, NONE, STORE};
+use calls::{Ceilings, Ending, Event, Limits, Mappings, Note, Order, State, NONE, STORE};
 
 pub use boxed::answer;
 use graph::Graph;
 use machine::Machine;
+pub use sheet::{Lent, Sheet};
 
 /// Notes and endings of one call at most: one for the arrival and one for each stored signal.
 pub const LIST: usize = STORE + 1;
@@ -82,8 +85,8 @@ fn refused_at(number: u32, item: u32) -> Kind {
 }
 
 /// The verdict on a sheet alone: the broken rule and its item, or nothing.
-pub fn verdict(workflow: &Workflow, ceilings: &Ceilings) -> Option<(u32, u32)> {
-    match Graph::load(workflow, ceilings) {
+pub fn verdict(sheet: impl Sheet, ceilings: &Ceilings) -> Option<(u32, u32)> {
+    match Graph::load(sheet, ceilings) {
         Err(Kind::Refused { number, item }) => Some((number, item)),
         _ => None,
     }
@@ -91,7 +94,7 @@ pub fn verdict(workflow: &Workflow, ceilings: &Ceilings) -> Option<(u32, u32)> {
 
 /// Applies one event. The checks run in the order of 01's table; the first that fails is the answer.
 pub fn transition(
-    workflow: &Workflow,
+    sheet: impl Sheet,
     state: Option<&State>,
     event: &Event,
     mappings: &Mappings,
@@ -100,14 +103,14 @@ pub fn transition(
     out: &mut Decision,
 ) {
     out.clear();
-    out.kind = match decide(workflow, state, event, mappings, ceilings, limits, out) {
+    out.kind = match decide(sheet, state, event, mappings, ceilings, limits, out) {
         Ok(()) => Kind::Next,
         Err(kind) => kind,
     };
 }
 
 fn decide(
-    workflow: &Workflow,
+    sheet: impl Sheet,
     state: Option<&State>,
     event: &Event,
     mappings: &Mappings,
@@ -115,7 +118,7 @@ fn decide(
     limits: &Limits,
     out: &mut Decision,
 ) -> Step<()> {
-    let graph = Graph::load(workflow, ceilings)?;
+    let graph = Graph::load(sheet, ceilings)?;
     event::check(event, mappings)?;
     match state {
         None if event.kind == event::START => {

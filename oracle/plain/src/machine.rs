@@ -7,6 +7,7 @@ use calls::{
 
 use super::event::{self, FAILURE, SUCCESS};
 use super::graph::{self, Graph, EXHAUSTED, OK, RECEIVED, REPEATABLE};
+use super::sheet::Sheet;
 use super::snapshot::{
     self, COMPLETED, NEEDS_INTERVENTION, RUNNING, SCHEDULED, STUCK, UNKNOWN, WAITING,
 };
@@ -42,8 +43,8 @@ const PARAMS: u32 = 1;
 const OUTPUT: u32 = 2;
 
 /// Moves the run in `out`, which a want or a refusal leaves as it is at that moment.
-pub(super) struct Machine<'a> {
-    graph: &'a Graph<'a>,
+pub(super) struct Machine<'a, S> {
+    graph: &'a Graph<S>,
     limits: &'a Limits,
     mappings: &'a Mappings,
     out: &'a mut Decision,
@@ -51,13 +52,13 @@ pub(super) struct Machine<'a> {
     operations: u64,
 }
 
-impl<'a> Machine<'a> {
+impl<'a, S: Sheet> Machine<'a, S> {
     pub(super) fn new(
-        graph: &'a Graph<'a>,
+        graph: &'a Graph<S>,
         limits: &'a Limits,
         mappings: &'a Mappings,
         out: &'a mut Decision,
-    ) -> Machine<'a> {
+    ) -> Machine<'a, S> {
         Machine {
             graph,
             limits,

@@ -5,6 +5,7 @@ use calls::{
 };
 
 use super::graph::{Graph, ACTIVITY, AWAIT_SIGNAL};
+use super::sheet::Sheet;
 
 pub(super) const RUNNING: u32 = 1;
 pub(super) const WAITING: u32 = 2;
@@ -21,7 +22,7 @@ pub(super) fn is_terminal(state: &State) -> bool {
 }
 
 /// What the moves rely on, the counters' range and the zeros of unused slots.
-pub(super) fn consistent(state: &State, graph: &Graph) -> bool {
+pub(super) fn consistent(state: &State, graph: &Graph<impl Sheet>) -> bool {
     if state.last_sequence > MOST || state.last_accepted_at > MOST {
         return false;
     }
@@ -50,7 +51,7 @@ fn bits(any: u64, signal: &BufferedSignal) -> u64 {
 }
 
 /// Streaks that the sheet's limits allow; nothing in unused slots and in those of nodes that the sheet lacks.
-fn slots_fit(state: &State, graph: &Graph) -> bool {
+fn slots_fit(state: &State, graph: &Graph<impl Sheet>) -> bool {
     let count = graph.node_count();
     for node in 0..count {
         if !streak_fits(&state.streaks[node], node as u32, graph) {
@@ -70,7 +71,7 @@ fn slots_fit(state: &State, graph: &Graph) -> bool {
             .all(|result| *result == NodeResult::default())
 }
 
-fn streak_fits(streak: &Streak, node: u32, graph: &Graph) -> bool {
+fn streak_fits(streak: &Streak, node: u32, graph: &Graph<impl Sheet>) -> bool {
     if streak.count == 0 {
         return streak.outcome == 0;
     }
@@ -91,7 +92,7 @@ fn ended(state: &State) -> bool {
     }
 }
 
-fn parked(state: &State, graph: &Graph) -> bool {
+fn parked(state: &State, graph: &Graph<impl Sheet>) -> bool {
     let position = &state.position;
     if state.result != Output::Nothing || position.node as usize >= graph.node_count() {
         return false;

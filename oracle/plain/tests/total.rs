@@ -1,8 +1,9 @@
-//! Whatever numbers the structs hold, there is an answer.
+//! Whatever numbers the structs hold, there is an answer, and the same where the sheet is read in place.
 
 use calls::{layout, numbers, Node, Rows, Workflow};
 use generator::fields::{Array, FIELDS};
 use generator::rng::Rng;
+use plain::{Decision, Lent};
 
 /// Any number, small ones as often as others.
 fn number(rng: &mut Rng) -> u64 {
@@ -81,6 +82,22 @@ fn any_numbers_have_an_answer() {
         call[layout::CALL_HAS_RECORD] = state.is_some().into();
         call[layout::CALL_DELAY] = number(&mut rng);
         let call = numbers::call_of(numbers::workflow_of(&sheet), &call, state);
-        plain::answer(&call.expect("a call"));
+        let call = call.expect("a call");
+        let mut out = Decision::new();
+        plain::transition(
+            Lent(&sheet),
+            call.state.as_ref(),
+            &call.event,
+            &call.mappings,
+            &call.ceilings,
+            &call.limits,
+            &mut out,
+        );
+        assert_eq!(plain::answer(&call), out.answer());
+        let judged = [
+            plain::verdict(&call.workflow, &call.ceilings),
+            plain::verdict(Lent(&sheet), &call.ceilings),
+        ];
+        assert_eq!(judged[0], judged[1]);
     }
 }
