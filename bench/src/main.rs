@@ -2,12 +2,19 @@
 //!
 //! The sides of a case are timed in turns, many rounds of each; the least time of a side counts, and a ratio is that
 //! of least times. Before that their answers are compared.
+//!
+//! With `--check` it fails where the means of the ratios or the large copies of one call are above the numbers of the file
+//! `limits`.
+
+mod counted;
 
 use std::hint::black_box;
+use std::process::ExitCode;
 use std::time::Instant;
 
 use calls::numbers::{self, ANSWER};
 use calls::{Call, State, Workflow, NONE};
+use counted::{Moved, LARGE};
 use generator::full::{self, CEILINGS};
 use generator::{directed, joint};
 use kuxhoveza::raw;
@@ -130,26 +137,40 @@ fn cases() -> Vec<(String, Call)> {
     cases
 }
 
-fn show_call(name: &str, call: &Call) {
-    let sheet = numbers::sheet(&call.workflow);
+/// The case whose large copies are held to a limit.
+const LONGEST: &str = "130 microsteps";
+
+/// What a case showed.
+struct Shown {
+    name: String,
+    /// Library / plain behind the boundary, with the sheet read into structs and in place.
+    boundary: f64,
+    in_place: f64,
+    moved: Option<Moved>,
+}
+
+fn show_call(name: &str, call: &Call) -> Shown {
+    let sheet = &numbers::sheet(&call.workflow)[..];
     let words: kuxhoveza::Call = numbers::call(call).try_into().unwrap();
     let record = call.state.as_ref().map(numbers::record);
-    let lent = record.map_or([0; numbers::RECORD], |record| record.try_into().unwrap());
+    let lent = record.unwrap_or_else(|| vec![0; numbers::RECORD]);
     let asked = Asked::of(call).expect("a sheet with its form");
     let mut out = Decision::new();
-    let (mut theirs, mut ours) = ([0; ANSWER], [0; ANSWER]);
+    let (mut theirs, mut placed, mut ours) = ([0; ANSWER], [0; ANSWER], [0; ANSWER]);
 
     out.decide(call);
     assert_eq!(original::answer(call), out.answer(), "{name}");
-    assert_eq!(
-        boundary::transition(&sheet[..], &words, &lent, &mut theirs),
-        0
-    );
+    assert_eq!(boundary::transition(sheet, &words, &lent, &mut theirs), 0);
     assert_eq!(numbers::answer(&out.answer()).unwrap(), theirs, "{name}");
-    assert_eq!(raw::transition(&sheet[..], &words, &lent, &mut ours), 0);
+    let said = boundary::transition_in_place(sheet, &words, &lent, &mut placed);
+    assert_eq!((said, placed), (0, theirs), "{name}");
+    assert_eq!(raw::transition(sheet, &words, &lent, &mut ours), 0);
     assert_eq!(theirs, ours, "{name}");
+    ours.fill(1);
+    let moved = counted::transition(sheet, &words, &lent, &mut ours);
+    assert!(moved.is_none() || theirs == ours, "{name}");
 
-    let [original, structs, plain, library] = least([
+    let [original, structs, plain, in_place, library] = least([
         &mut || {
             black_box(black_box(&asked).transition().is_ok());
         },
@@ -158,30 +179,126 @@ fn show_call(name: &str, call: &Call) {
             black_box(&out);
         },
         &mut || {
-            boundary::transition(black_box(&sheet[..]), &words, &lent, black_box(&mut theirs));
+            boundary::transition(black_box(sheet), &words, &lent, black_box(&mut theirs));
         },
         &mut || {
-            raw::transition(black_box(&sheet[..]), &words, &lent, black_box(&mut ours));
+            boundary::transition_in_place(black_box(sheet), &words, &lent, black_box(&mut placed));
+        },
+        &mut || {
+            raw::transition(black_box(sheet), &words, &lent, black_box(&mut ours));
         },
     ]);
+    let bytes =
+        |of: fn(Moved) -> usize| moved.map_or("-".to_string(), |moved| of(moved).to_string());
     println!(
-        "| {name} | {original:.0} | {structs:.0} | {plain:.0} | {library:.0} | {:.1} | {:.2} | {:.2} |",
+        "| {name} | {original:.0} | {structs:.0} | {plain:.0} | {in_place:.0} | {library:.0} | {:.1} | {:.2} | {:.2} | {:.2} | {} | {} |",
         original / library,
         library / plain,
-        library / structs
+        library / in_place,
+        library / structs,
+        bytes(|moved| moved.copied),
+        bytes(|moved| moved.cleared),
     );
-}
-
-fn calls() {
-    println!("| Call | Original, ns | Plain, structs | Plain, boundary | Library | Original / library | Library / plain, boundary | Library / plain, structs |");
-    println!("|---|---|---|---|---|---|---|---|");
-    for (name, call) in cases() {
-        show_call(&name, &call);
+    Shown {
+        name: name.to_string(),
+        boundary: library / plain,
+        in_place: library / in_place,
+        moved,
     }
 }
 
-fn main() {
+fn geometric_mean(ratios: impl ExactSizeIterator<Item = f64>) -> f64 {
+    let count = ratios.len() as f64;
+    (ratios.map(f64::ln).sum::<f64>() / count).exp()
+}
+
+/// What is held to the limits.
+struct Measured {
+    boundary: f64,
+    in_place: f64,
+    /// Large copies of the longest call, where they are counted.
+    large: Option<usize>,
+}
+
+fn calls() -> Measured {
+    println!("| Call | Original, ns | Plain, structs | Plain, boundary | Plain, in place | Library | Original / library | Library / plain, boundary | Library / plain, in place | Library / plain, structs | Copied, bytes | Cleared, bytes |");
+    println!("|---|---|---|---|---|---|---|---|---|---|---|---|");
+    let cases = cases();
+    let shown: Vec<Shown> = cases
+        .iter()
+        .map(|(name, call)| show_call(name, call))
+        .collect();
+    let longest = shown.iter().find(|it| it.name == LONGEST);
+    let moved = longest.expect("the longest call").moved;
+    let measured = Measured {
+        boundary: geometric_mean(shown.iter().map(|it| it.boundary)),
+        in_place: geometric_mean(shown.iter().map(|it| it.in_place)),
+        large: moved.map(|moved| moved.large),
+    };
+    println!();
+    println!(
+        "Geometric mean of {} calls: library / plain, boundary {:.3}; library / plain, in place {:.3}",
+        shown.len(),
+        measured.boundary,
+        measured.in_place
+    );
+    match measured.large {
+        Some(large) => println!("{LONGEST}: {large} copies of {LARGE} bytes or more"),
+        None => println!("Copies are counted only where the library is an archive"),
+    }
+    measured
+}
+
+/// Lines of a name and a number; the others begin with #.
+fn limit(text: &str, name: &str) -> f64 {
+    let mut lines = text.lines().filter_map(|line| line.split_once(' '));
+    let (_, number) = lines
+        .find(|(it, _)| *it == name)
+        .unwrap_or_else(|| panic!("no {name} in bench/limits"));
+    number.trim().parse().expect("a number")
+}
+
+/// Whether nothing is above its limit.
+fn check(measured: &Measured) -> bool {
+    let text = include_str!("../limits");
+    let Some(large) = measured.large else {
+        println!("NOT CHECKED: no copies are counted");
+        return false;
+    };
+    let held = [
+        ("boundary", measured.boundary),
+        ("in-place", measured.in_place),
+        ("large-copies", large as f64),
+    ];
+    let mut within = true;
+    for (name, number) in held {
+        let limit = limit(text, name);
+        if number > limit {
+            println!("ABOVE ITS LIMIT: {name} is {number:.3}, at most {limit}");
+            within = false;
+        }
+    }
+    if within {
+        println!("within bench/limits");
+    }
+    within
+}
+
+fn main() -> ExitCode {
+    let words: Vec<String> = std::env::args().skip(1).collect();
+    let checked = match words.iter().map(String::as_str).collect::<Vec<_>>()[..] {
+        [] => false,
+        ["--check"] => true,
+        _ => {
+            eprintln!("sh bench/run [--check]");
+            return ExitCode::from(2);
+        }
+    };
     verdicts();
     println!();
-    calls();
+    let measured = calls();
+    match checked && !check(&measured) {
+        true => ExitCode::FAILURE,
+        false => ExitCode::SUCCESS,
+    }
 }
