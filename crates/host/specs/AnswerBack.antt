@@ -1,9 +1,9 @@
 -- A written answer is read as the answer: what a host finds in its buffer is what the definition says.
 use mathlib.Core.Path.{_≡_, refl, _∙_}
 use mathlib.Core.List.{List, [], _∷_, _++_, flatMap, append-assoc}
-use Prim.Native.Nat.{ℕ, _+_, _-_, _≤_, _<_}
+use Prim.Native.Nat.{ℕ, _+_, _<_}
 use native.Mathlib.Omega.{arith}
-use lib.ListN.{length, getD, take, drop, replicate, length-append, length-replicate, List·getD-append}
+use lib.ListN.{length, getD, take, drop, length-append, length-replicate, List·getD-append}
 use lib.Seq.{getD-append-add, drop-at, take-at}
 use borrow.Author.Tests.{eq-eqb}
 use Rattle.laws.specs.Bool.{if_then_else_, if-true}

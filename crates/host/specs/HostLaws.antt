@@ -2,11 +2,11 @@
 use mathlib.Core.Path.{_≡_, refl, sym, _∙_, ap}
 use mathlib.Core.Bool.{Bool, true, false, not}
 use mathlib.Core.List.{List, [], _∷_}
-use Prim.Native.Nat.{ℕ, _≤_}
+use Prim.Native.Nat.{ℕ, _≤_, _<_}
 use native.Mathlib.Omega.{arith}
 use lib.ListN.{length, getD, set}
 use lib.Dec.{ltb, eqb}
-use borrow.Author.Tests.{ltb-false, le-ltb, eqb-true, eq-eqb, ne-eqb}
+use borrow.Author.Tests.{ltb-false, lt-ltb, le-ltb, eqb-true, eq-eqb, ne-eqb}
 use Rattle.laws.specs.Bool.{if_then_else_, _and_, split, if-true, if-false}
 use Rattle.laws.specs.Splice.{splice, splice-one, splice-more, length-splice}
 use Rattle.workflow.specs.Layout.{numbers as sheet-length}
@@ -159,18 +159,24 @@ two-of (x ∷ []) e = absurd (omega arith)
 two-of (x ∷ y ∷ []) e = refl
 two-of (x ∷ y ∷ z ∷ l) e = absurd (omega arith)
 
-pub verdict-room : (n room : ℕ) → verdict-receipt n room ≡ layout.written → verdict-length ≤ room
-unfolding verdict-receipt if_then_else_
-verdict-room n room e =
-    split (eqb n sheet-length)
-    (λ h. split (ltb room verdict-length) (λ i. let z : _≡_ {A = ℕ} 1 0 = rw (h, i) at e in absurd (omega arith)) (λ i. ltb-false room verdict-length i))
-    (λ h. let z : _≡_ {A = ℕ} 4 0 = rw h at e in absurd (omega arith))
+-- The tests, one by one: of a sheet's length n and the room for the two numbers.
+module _ (n room : ℕ) where
+  pub other-sheet : (n ≡ sheet-length → ⊥) → layout.bad-sheet-length ≡ verdict-receipt n room
+  unfolding verdict-receipt if_then_else_
+  other-sheet h = simp (ne-eqb _ _ h)
+
+  pub no-room : n ≡ sheet-length → room < verdict-length → layout.short-buffer ≡ verdict-receipt n room
+  unfolding verdict-receipt if_then_else_
+  no-room h g = simp (eq-eqb _ _ h, lt-ltb _ _ g)
+
+  pub has-both : n ≡ sheet-length → verdict-length ≤ room → layout.written ≡ verdict-receipt n room
+  unfolding verdict-receipt if_then_else_
+  has-both h g = simp (eq-eqb _ _ h, le-ltb _ _ g)
 
 module _ (w : List ℕ) (n : ℕ) (k : Ceilings) (b : List ℕ) where
-  pub judged-two : {v : Verdict} {l : List ℕ} → v ≡ verdict (workflow w) k → l ≡ verdict-numbers v → verdict-receipt n (length b) ≡ layout.written → set (set b 0 (getD l 0 0)) 1 (getD l 1 0) ≡ judged w n k b
+  pub judged-two : {v : Verdict} {l : List ℕ} → v ≡ verdict (workflow w) k → l ≡ verdict-numbers v → verdict-length ≤ length b → verdict-receipt n (length b) ≡ layout.written → set (set b 0 (getD l 0 0)) 1 (getD l 1 0) ≡ judged w n k b
   unfolding judged
-  judged-two {v} {l} p q e =
-      let room = verdict-room n (length b) e in
+  judged-two {v} {l} p q room e =
       let long : length l ≡ 2 = rw q (length-verdict v) in
       let x = getD l 0 0 in
       let y = getD l 1 0 in

@@ -3,7 +3,7 @@ use mathlib.Core.Path.{_≡_, refl, _∙_, ap}
 use mathlib.Core.List.{List, [], _∷_, _++_, flatMap}
 use Prim.Native.Nat.{ℕ, _+_, _*_, _≤_}
 use native.Mathlib.Omega.{arith}
-use lib.ListN.{length, getD, length-append, length-replicate}
+use lib.ListN.{length, getD, length-append}
 use Rattle.laws.specs.Rows.{rows, rows-all}
 use Rattle.laws.specs.Splice.{splice, splice-more, length-flat}
 use Rattle.model.specs.declared.Output.{Output}
@@ -20,7 +20,7 @@ use Rattle.model.specs.declared.answer.Ending.{Ending}
 use Rattle.model.specs.declared.answer.Answer.{Answer}
 use Rattle.model.specs.Answers.{output-numbers, kept-numbers, params-numbers, order-numbers, answer-numbers}
 use Rattle.host.specs.Layout.{store, nodes, signal-width, streak-width, result-width, note-width, ending-width, output-width, error-width, record-error, record-signals, record-length, answer-noted}
-use Rattle.host.specs.Write.{signal-numbers, visits-numbers, streak-numbers, result-numbers, note-numbers, ending-numbers, scalar-numbers, head-numbers, record-numbers, state-numbers}
+use Rattle.host.specs.Write.{signal-numbers, visits-numbers, streak-numbers, result-numbers, note-numbers, ending-numbers, scalar-numbers, head-numbers, record-numbers}
 
 pub length-output : (x : Output) → length (output-numbers x) ≡ output-width
 unfolding output-numbers
@@ -106,12 +106,6 @@ length-record s h =
     let c = flat-size streak-numbers nodes length-streak (s .streaks) (h .streaks) in
     let d = flat-size result-numbers nodes length-result (s .results) (h .results) in
     simp (length-append, length-head, a, b, c, d)
-
-pub length-state : (x : Answer) (s : State) → Whole s → length (state-numbers x s) ≡ record-length
-unfolding state-numbers
-length-state (Answer.Next o k) s h = length-record s h
-length-state (Answer.Wants n f b) s h = length-record s h
-length-state (Answer.Refused k i) s h = length-replicate {A = ℕ} record-length 0
 
 -- PARTS IN A ROW. In l, which was l₀, ys stand from a place on, k numbers.
 pub record Wrote (l₀ : List ℕ) (at : ℕ) (ys : List ℕ) (k : ℕ) (l : List ℕ) : Type 0 where

@@ -8,7 +8,7 @@ use native.Mathlib.Omega.{arith}
 use lib.ListN.{length, getD, set, take, drop, replicate, length-append, length-drop, length-replicate, replicate-append-replicate, List·getD-append}
 use lib.Seq.{length-take-le, take-at, drop-append-add, drop-append-le, getD-append-add}
 use lib.Dec.{ltb, eqb}
-use lib.Bits.{bitOr, bitAnd, or-add-and, and-le-l, and-le-r}
+use lib.Bits.{bitOr, or-add-and, and-le-l, and-le-r}
 use borrow.Author.Tests.{eqb-true, ltb-true, ltb-false}
 use Rattle.laws.specs.Bool.{if_then_else_, split}
 use Rattle.laws.specs.Splice.{splice, splice-one, splice-more, length-splice, length-flat, Written, write-start, write-next}

@@ -98,18 +98,6 @@ pub extern "C" fn kuxhoveza_transition(
     numbers
 }
 
-fn verdict_receipt(sheet: usize, room: usize) -> u32
-    ensures { λ r. ⌜ r ≡ verdict-receipt sheet room ⌝ }
-{
-    if sheet != NUMBERS {
-        return layout::BAD_SHEET_LENGTH;
-    }
-    if room < layout::VERDICT {
-        return layout::SHORT_BUFFER;
-    }
-    layout::WRITTEN
-}
-
 fn verdict_numbers(verdict: Verdict) -> [u32; layout::VERDICT]
     ensures { λ r. ⌜ r ≡ verdict-numbers verdict ⌝ }
 {
@@ -133,20 +121,23 @@ pub extern "C" fn kuxhoveza_verdict(
     ensures { λ r. ⌜ r ≡ verdict-receipt «sheet_len» (length (now (out .entry))) ⌝ }
     ensures { λ _. ⌜ now (out .exit) ≡ judged (now (sheet .entry)) «sheet_len» (record { nodes = nodes; visits = visits; activations = activations; attempts = attempts }) (now (out .entry)) ⌝ }
 {
-    let receipt = verdict_receipt(sheet_len, out.len());
-    if receipt == layout::WRITTEN {
-        let verdict = graph::validate(
-            sheet,
-            Ceilings {
-                nodes,
-                visits,
-                activations,
-                attempts,
-            },
-        );
-        let numbers = verdict_numbers(verdict);
-        out[layout::VERDICT_NUMBER] = numbers[layout::VERDICT_NUMBER];
-        out[layout::VERDICT_ITEM] = numbers[layout::VERDICT_ITEM];
+    if sheet_len != NUMBERS {
+        return layout::BAD_SHEET_LENGTH;
     }
-    receipt
+    if out.len() < layout::VERDICT {
+        return layout::SHORT_BUFFER;
+    }
+    let verdict = graph::validate(
+        sheet,
+        Ceilings {
+            nodes,
+            visits,
+            activations,
+            attempts,
+        },
+    );
+    let numbers = verdict_numbers(verdict);
+    out[layout::VERDICT_NUMBER] = numbers[layout::VERDICT_NUMBER];
+    out[layout::VERDICT_ITEM] = numbers[layout::VERDICT_ITEM];
+    layout::WRITTEN
 }

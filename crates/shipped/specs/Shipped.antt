@@ -1,7 +1,7 @@
 -- Demand 3 of what is shipped: the list of calls of the exported function `kuxhoveza_transition`, as a host makes them, on one lent sheet (document 01, "The list of
 -- demand 3").
--- A reader needs of other files: what the function ensures, `receipt` and `answered` (host, Host); how numbers are read, `call-of` and `record-of` (host, Read) and
--- `answer-of-numbers` (host, ReadAnswer); and the claim, `Demand3` (demand3, Demand3).
+-- A reader needs of other files: what the function ensures, `receipt` and `answered` (host, Host); the layout's lengths, `Lent` (host, HostLaws); how numbers are
+-- read, `call-of` and `record-of` (host, Read) and `answer-of-numbers` (host, ReadAnswer); and the claim, `Demand3` (demand3, Demand3).
 use mathlib.Core.Path.{_≡_}
 use mathlib.Core.Bool.{Bool, true, false}
 use mathlib.Core.List.{List, [], _∷_, _++_}

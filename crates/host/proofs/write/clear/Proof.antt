@@ -1,10 +1,10 @@
 use borrow.Author.Needs.{needs}
 use native.Mathlib.Omega.{arith}
-use mathlib.Core.Path.{refl, sym, _∙_, ap}
-use mathlib.Core.List.{List, [], _∷_}
+use mathlib.Core.Path.{refl}
+use mathlib.Core.List.{[], _∷_}
 use Prim.Native.Nat.{ℕ, _-_}
 use lib.ListN.{replicate, length-replicate}
-use Rattle.laws.specs.Splice.{Written, write-start, write-next, write-end, splice-one, flat-ones}
+use Rattle.laws.specs.Splice.{Written, write-start, write-end, flat-ones}
 use Rattle.host.specs.Layout.{answer-length}
 use Rattle.host.specs.WriteRows.{write-zero}
 use Rattle.host.proofs.write.clear.Statement.{statement}
