@@ -3,7 +3,7 @@
 //! The sides of a case are timed in turns, many rounds of each; the least time of a side counts, and a ratio is that
 //! of least times. Before that their answers are compared.
 //!
-//! With `--check` it fails where the means of the ratios or the large copies of one call are above the numbers of the file
+//! With `--check` it fails where a ratio, a mean of ratios or the large copies of one call are above the numbers of the file
 //! `limits`.
 
 mod counted;
@@ -56,7 +56,8 @@ fn library_verdict(sheet: &kuxhoveza::Sheet) -> Option<(u32, u32)> {
     Some((refusal.number, refusal.item))
 }
 
-fn show_verdict(name: &str, workflow: &Workflow) {
+/// Shows a row and tells its ratio.
+fn show_verdict(name: &str, workflow: &Workflow) -> f64 {
     let sheet = numbers::sheet(workflow);
     let verdict = plain::verdict(workflow, &CEILINGS);
     assert_eq!(library_verdict(&sheet), verdict, "{name}");
@@ -74,20 +75,23 @@ fn show_verdict(name: &str, workflow: &Workflow) {
         workflow.limit_count,
         library / plain
     );
+    library / plain
 }
 
-fn verdicts() {
+/// The greatest ratio.
+fn verdicts() -> f64 {
     println!("| Sheet | Routes | Limits | Library, ns | Plain Rust, ns | Ratio |");
     println!("|---|---|---|---|---|---|");
-    show_verdict("Joint A", &joint::sheet());
+    let mut greatest = show_verdict("Joint A", &joint::sheet());
     for n in [8, 16, 32, 64] {
-        show_verdict(&format!("{n} nodes"), &full::sheet(n));
+        greatest = greatest.max(show_verdict(&format!("{n} nodes"), &full::sheet(n)));
     }
     for (rule, workflow) in full::refused() {
         let verdict = plain::verdict(&workflow, &CEILINGS);
         assert_eq!(verdict.map(|(number, _)| number), Some(rule));
-        show_verdict(&format!("refused with {rule}"), &workflow);
+        greatest = greatest.max(show_verdict(&format!("refused with {rule}"), &workflow));
     }
+    greatest
 }
 
 /// The record that a call leaves.
@@ -143,6 +147,7 @@ const LONGEST: &str = "130 microsteps";
 /// What a case showed.
 struct Shown {
     name: String,
+    original: f64,
     /// Library / plain behind the boundary, with the sheet read into structs and in place.
     boundary: f64,
     in_place: f64,
@@ -201,6 +206,7 @@ fn show_call(name: &str, call: &Call) -> Shown {
     );
     Shown {
         name: name.to_string(),
+        original: library / original,
         boundary: library / plain,
         in_place: library / in_place,
         moved,
@@ -214,8 +220,14 @@ fn geometric_mean(ratios: impl ExactSizeIterator<Item = f64>) -> f64 {
 
 /// What is held to the limits.
 struct Measured {
+    /// Geometric means.
     boundary: f64,
     in_place: f64,
+    /// The ratios of the longest call, and the greatest of the others.
+    longest: f64,
+    longest_to_original: f64,
+    greatest: f64,
+    greatest_to_original: f64,
     /// Large copies of the longest call, where they are counted.
     large: Option<usize>,
 }
@@ -229,8 +241,17 @@ fn calls() -> Measured {
         .map(|(name, call)| show_call(name, call))
         .collect();
     let longest = shown.iter().find(|it| it.name == LONGEST);
-    let moved = longest.expect("the longest call").moved;
+    let longest = longest.expect("the longest call");
+    let moved = longest.moved;
+    let greatest = |ratio: fn(&Shown) -> f64| {
+        let others = shown.iter().filter(|it| it.name != LONGEST);
+        others.map(ratio).fold(0.0, f64::max)
+    };
     let measured = Measured {
+        longest: longest.boundary,
+        longest_to_original: longest.original,
+        greatest: greatest(|it| it.boundary),
+        greatest_to_original: greatest(|it| it.original),
         boundary: geometric_mean(shown.iter().map(|it| it.boundary)),
         in_place: geometric_mean(shown.iter().map(|it| it.in_place)),
         large: moved.map(|moved| moved.large),
@@ -259,15 +280,20 @@ fn limit(text: &str, name: &str) -> f64 {
 }
 
 /// Whether nothing is above its limit.
-fn check(measured: &Measured) -> bool {
+fn check(verdicts: f64, measured: &Measured) -> bool {
     let text = include_str!("../limits");
     let Some(large) = measured.large else {
         println!("NOT CHECKED: no copies are counted");
         return false;
     };
     let held = [
+        ("verdicts", verdicts),
         ("boundary", measured.boundary),
         ("in-place", measured.in_place),
+        ("greatest", measured.greatest),
+        ("greatest-to-original", measured.greatest_to_original),
+        ("longest", measured.longest),
+        ("longest-to-original", measured.longest_to_original),
         ("large-copies", large as f64),
     ];
     let mut within = true;
@@ -294,10 +320,10 @@ fn main() -> ExitCode {
             return ExitCode::from(2);
         }
     };
-    verdicts();
+    let verdicts = verdicts();
     println!();
     let measured = calls();
-    match checked && !check(&measured) {
+    match checked && !check(verdicts, &measured) {
         true => ExitCode::FAILURE,
         false => ExitCode::SUCCESS,
     }
