@@ -1,6 +1,6 @@
 // The boundary for hosts: a call, a run record and an answer as plain numbers (docs/NUMBERS.md).
 pub mod layout;
-pub mod read;
+mod read;
 mod write;
 
 use crate::read::Used;
