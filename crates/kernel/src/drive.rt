@@ -64,6 +64,7 @@ fn takes(ending: u32) -> u32
     1
 }
 
+// An entry, where a node is next.
 fn entries(next: Next) -> u32
     ensures { λ r. ⌜ r ≡ entries next ⌝ }
 {
