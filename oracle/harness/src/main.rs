@@ -90,6 +90,9 @@ fn compare(arguments: &Arguments) -> bool {
 
 #[cfg(feature = "library")]
 fn library(arguments: &Arguments) -> Result<bool, String> {
+    if !kuxhoveza::layout_matches() {
+        return Err("the library's layout is of another version than the header's".to_string());
+    }
     let library = compare::Side {
         name: "library",
         answer: library::answer,
