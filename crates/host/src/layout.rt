@@ -148,6 +148,9 @@ pub const CALL_RESOLUTION: usize = 26;
 
 pub const CALL_ANSWERED: usize = 27;
 
+// How many numbers an event has: those of a call from its sequence on.
+pub const EVENT: usize = 19;
+
 pub const CALL_MAPPINGS: usize = 28;
 
 pub const CALL: usize = CALL_MAPPINGS + MAPPING_WIDTH * MAPPINGS;

@@ -1,6 +1,6 @@
 // The boundary for hosts: a call, a run record and an answer as plain numbers (docs/NUMBERS.md).
 pub mod layout;
-mod read;
+pub mod read;
 mod write;
 
 use crate::read::Used;

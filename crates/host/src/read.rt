@@ -257,6 +257,14 @@ fn node_rows(xs: &[u64], rows: usize) -> usize
     layout::NODES
 }
 
+// Every row.
+pub fn all_rows() -> Used {
+    Used {
+        signals: layout::STORE,
+        nodes: layout::NODES,
+    }
+}
+
 // None of a record that goes with no call.
 pub fn used_rows(xs: &[u64], has_record: bool, rows: usize) -> Used
     requires { ⌜ (length (now xs) ≡ record-length) × (rows ≤ nodes) ⌝ }
