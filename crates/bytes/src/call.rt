@@ -5,13 +5,24 @@ use codec::numbers::Place;
 use codec::numbers::read_longs;
 use host::layout;
 use workflow::layout::NUMBERS;
+ghost use mathlib.Core.Path.{_≡_};
+ghost use lib.ListN.{replicate};
+ghost use Rattle.workflow.specs.Layout.{numbers as sheet-length};
+ghost use Rattle.host.specs.Layout.{record-length, call-length, call-has-record};
+ghost use Rattle.codec.specs.Stored.{place-of, Stored, Zero-from};
+ghost use Rattle.bytes.specs.Call.{given-shape, rest, call, marked};
+ghost use Rattle.bytes.specs.CallStored.{Rest-stored, Call-stored};
 
 fn read_given(
     bytes: &[u8],
     start: usize,
     has_record: bool,
     run: &mut [u64; layout::RECORD],
-) -> Place {
+) -> Place
+    requires { ⌜ now run ≡ replicate record-length 0 ⌝ }
+    ensures { λ r. ⌜ r ≡ place-of (given-shape (marked «has_record») .read (now (bytes .entry)) start) ⌝ }
+    ensures { λ _. ⌜ Stored (given-shape (marked «has_record») .read (now (bytes .entry)) start) (now (run .entry)) 0 (now (run .exit)) ⌝ }
+{
     if has_record {
         return read_run(bytes, start, run);
     }
@@ -24,7 +35,11 @@ pub fn read_rest(
     start: usize,
     call: &mut [u64; layout::CALL],
     run: &mut [u64; layout::RECORD],
-) -> Place {
+) -> Place
+    requires { ⌜ Zero-from call-has-record (now call) × (now run ≡ replicate record-length 0) ⌝ }
+    ensures { λ r. ⌜ r ≡ place-of (rest .read (now (bytes .entry)) start) ⌝ }
+    ensures { λ _. ⌜ Rest-stored (rest .read (now (bytes .entry)) start) (now (call .entry)) (now (call .exit)) (now (run .exit)) ⌝ }
+{
     let mark = read_longs(
         bytes,
         start,
@@ -71,7 +86,11 @@ pub fn read_call(
     sheet: &mut [u32; NUMBERS],
     call: &mut [u64; layout::CALL],
     run: &mut [u64; layout::RECORD],
-) -> Place {
+) -> Place
+    requires { ⌜ (now sheet ≡ replicate sheet-length 0) × (now call ≡ replicate call-length 0) × (now run ≡ replicate record-length 0) ⌝ }
+    ensures { λ r. ⌜ r ≡ place-of (call .read (now (bytes .entry)) 0) ⌝ }
+    ensures { λ _. ⌜ Call-stored (call .read (now (bytes .entry)) 0) (now (sheet .exit)) (now (call .exit)) (now (run .exit)) ⌝ }
+{
     let limits = read_longs(bytes, 0, call, 0, layout::CALL_HAS_RECORD);
     let Place::At(first) = limits else {
         return Place::Bad;

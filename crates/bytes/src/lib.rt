@@ -24,10 +24,17 @@ use codec::numbers::read_longs;
 use codec::numbers::write_longs;
 use host::kuxhoveza_transition;
 use host::layout;
-use host::read::all_rows;
 use host::read::call_fits;
-use host::read::record_fits;
+use host::read::run_fits;
 use workflow::layout::NUMBERS;
+ghost use mathlib.Core.Path.{_≡_};
+ghost use Prim.Native.Nat.{_+_, _≤_};
+ghost use lib.ListN.{length, getD, take, drop};
+ghost use Rattle.laws.specs.Splice.{splice};
+ghost use Rattle.workflow.specs.Layout.{numbers as sheet-length};
+ghost use Rattle.codec.specs.Numbers.{part};
+ghost use Rattle.bytes.specs.Boundary.{no-item, packed, returned, left, write-sheet, write-run, write-event, read-sheet, read-run, read-event, said, told, decide, decide-on, is-said, said-in, call-bytes, call-bytes-on};
+ghost use Rattle.bytes.specs.BoundaryLaws.{ends-at};
 
 // Refusals of this crate. Their item is 255.
 const BAD_FORM: u64 = 20;
@@ -43,25 +50,35 @@ const NO_ITEM: u64 = 255;
 const HALF: u64 = 0x1_0000_0000;
 
 // What a function returns: a number, and above its 32 bits an item or a size.
-fn packed(number: u64, rest: u64) -> u64 {
+fn packed(number: u64, rest: u64) -> u64
+    ensures { λ r. ⌜ r ≡ packed number rest ⌝ }
+{
     number % HALF + HALF * (rest % HALF)
 }
 
-fn refused(number: u64) -> u64 {
+fn refused(number: u64) -> u64
+    ensures { λ r. ⌜ r ≡ packed number no-item ⌝ }
+{
     packed(number, NO_ITEM)
 }
 
-fn done(size: usize) -> u64 {
+fn done(size: usize) -> u64
+    ensures { λ r. ⌜ r ≡ packed 0 size ⌝ }
+{
     packed(0, size as u64)
 }
 
 // A receipt of the number form.
-fn receipt(number: u32) -> u64 {
+fn receipt(number: u32) -> u64
+    ensures { λ r. ⌜ r ≡ packed number 0 ⌝ }
+{
     packed(number as u64, 0)
 }
 
 // What was read ends where the bytes end.
-fn ends(place: Place, bytes: &[u8]) -> bool {
+fn ends(place: Place, bytes: &[u8]) -> bool
+    ensures { λ r. ⌜ r ≡ ends-at (length (now (bytes .entry))) place ⌝ }
+{
     match place {
         Place::At(next) => next == bytes.len(),
         Place::Bad => false,
@@ -71,7 +88,10 @@ fn ends(place: Place, bytes: &[u8]) -> bool {
 // A SHEET.
 
 #[no_mangle]
-pub extern "C" fn kuxhoveza_write_sheet(sheet: &[u32], out: &mut [u8]) -> u64 {
+pub extern "C" fn kuxhoveza_write_sheet(sheet: &[u32], out: &mut [u8]) -> u64
+    ensures { λ r. ⌜ r ≡ returned (write-sheet (now (sheet .entry)) (length (now (out .entry)))) ⌝ }
+    ensures { λ _. ⌜ now (out .exit) ≡ left (write-sheet (now (sheet .entry)) (length (now (out .entry)))) (now (out .entry)) ⌝ }
+{
     if sheet.len() != NUMBERS {
         return receipt(layout::BAD_SHEET_LENGTH);
     }
@@ -86,7 +106,10 @@ pub extern "C" fn kuxhoveza_write_sheet(sheet: &[u32], out: &mut [u8]) -> u64 {
     done(size)
 }
 
-fn copy_numbers(out: &mut [u32], xs: &[u32; NUMBERS]) {
+fn copy_numbers(out: &mut [u32], xs: &[u32; NUMBERS])
+    requires { ⌜ length (now out) ≡ sheet-length ⌝ }
+    ensures { λ _. ⌜ now (out .exit) ≡ splice (now (out .entry)) 0 (now (xs .entry)) ⌝ }
+{
     let mut i: usize = 0;
     while i < NUMBERS {
         out[i] = xs[i];
@@ -95,7 +118,10 @@ fn copy_numbers(out: &mut [u32], xs: &[u32; NUMBERS]) {
 }
 
 #[no_mangle]
-pub extern "C" fn kuxhoveza_read_sheet(bytes: &[u8], sheet: &mut [u32]) -> u64 {
+pub extern "C" fn kuxhoveza_read_sheet(bytes: &[u8], sheet: &mut [u32]) -> u64
+    ensures { λ r. ⌜ r ≡ returned (read-sheet (now (bytes .entry)) (length (now (sheet .entry)))) ⌝ }
+    ensures { λ _. ⌜ now (sheet .exit) ≡ left (read-sheet (now (bytes .entry)) (length (now (sheet .entry)))) (now (sheet .entry)) ⌝ }
+{
     if sheet.len() != NUMBERS {
         return receipt(layout::BAD_SHEET_LENGTH);
     }
@@ -111,11 +137,14 @@ pub extern "C" fn kuxhoveza_read_sheet(bytes: &[u8], sheet: &mut [u32]) -> u64 {
 // A RUN.
 
 #[no_mangle]
-pub extern "C" fn kuxhoveza_write_run(run: &[u64], out: &mut [u8]) -> u64 {
+pub extern "C" fn kuxhoveza_write_run(run: &[u64], out: &mut [u8]) -> u64
+    ensures { λ r. ⌜ r ≡ returned (write-run (now (run .entry)) (length (now (out .entry)))) ⌝ }
+    ensures { λ _. ⌜ now (out .exit) ≡ left (write-run (now (run .entry)) (length (now (out .entry)))) (now (out .entry)) ⌝ }
+{
     if run.len() != layout::RECORD {
         return receipt(layout::BAD_RECORD_LENGTH);
     }
-    if !record_fits(run, all_rows()) {
+    if !run_fits(run) {
         return receipt(layout::BAD_RECORD);
     }
     if !run_tidy(run, 0) {
@@ -129,7 +158,10 @@ pub extern "C" fn kuxhoveza_write_run(run: &[u64], out: &mut [u8]) -> u64 {
     done(size)
 }
 
-fn copy_longs(out: &mut [u64], xs: &[u64], first: usize, k: usize) {
+fn copy_longs(out: &mut [u64], xs: &[u64], first: usize, k: usize)
+    requires { ⌜ (k ≤ length (now out)) × (first + k ≤ length (now xs)) ⌝ }
+    ensures { λ _. ⌜ now (out .exit) ≡ splice (now (out .entry)) 0 (part (now (xs .entry)) first (first + k)) ⌝ }
+{
     let mut i: usize = 0;
     while i < k {
         out[i] = xs[first + i];
@@ -138,7 +170,10 @@ fn copy_longs(out: &mut [u64], xs: &[u64], first: usize, k: usize) {
 }
 
 #[no_mangle]
-pub extern "C" fn kuxhoveza_read_run(bytes: &[u8], run: &mut [u64]) -> u64 {
+pub extern "C" fn kuxhoveza_read_run(bytes: &[u8], run: &mut [u64]) -> u64
+    ensures { λ r. ⌜ r ≡ returned (read-run (now (bytes .entry)) (length (now (run .entry)))) ⌝ }
+    ensures { λ _. ⌜ now (run .exit) ≡ left (read-run (now (bytes .entry)) (length (now (run .entry)))) (now (run .entry)) ⌝ }
+{
     if run.len() != layout::RECORD {
         return receipt(layout::BAD_RECORD_LENGTH);
     }
@@ -147,7 +182,7 @@ pub extern "C" fn kuxhoveza_read_run(bytes: &[u8], run: &mut [u64]) -> u64 {
     if !ends(place, bytes) {
         return refused(BAD_BYTES);
     }
-    if !record_fits(&numbers, all_rows()) {
+    if !run_fits(&numbers) {
         return refused(BAD_BYTES);
     }
     copy_longs(run, &numbers, 0, layout::RECORD);
@@ -157,7 +192,10 @@ pub extern "C" fn kuxhoveza_read_run(bytes: &[u8], run: &mut [u64]) -> u64 {
 // AN EVENT.
 
 #[no_mangle]
-pub extern "C" fn kuxhoveza_write_event(event: &[u64], out: &mut [u8]) -> u64 {
+pub extern "C" fn kuxhoveza_write_event(event: &[u64], out: &mut [u8]) -> u64
+    ensures { λ r. ⌜ r ≡ returned (write-event (now (event .entry)) (length (now (out .entry)))) ⌝ }
+    ensures { λ _. ⌜ now (out .exit) ≡ left (write-event (now (event .entry)) (length (now (out .entry)))) (now (out .entry)) ⌝ }
+{
     if event.len() != layout::EVENT {
         return receipt(layout::BAD_CALL_LENGTH);
     }
@@ -174,7 +212,10 @@ pub extern "C" fn kuxhoveza_write_event(event: &[u64], out: &mut [u8]) -> u64 {
 }
 
 #[no_mangle]
-pub extern "C" fn kuxhoveza_read_event(bytes: &[u8], event: &mut [u64]) -> u64 {
+pub extern "C" fn kuxhoveza_read_event(bytes: &[u8], event: &mut [u64]) -> u64
+    ensures { λ r. ⌜ r ≡ returned (read-event (now (bytes .entry)) (length (now (event .entry)))) ⌝ }
+    ensures { λ _. ⌜ now (event .exit) ≡ left (read-event (now (bytes .entry)) (length (now (event .entry)))) (now (event .entry)) ⌝ }
+{
     if event.len() != layout::EVENT {
         return receipt(layout::BAD_CALL_LENGTH);
     }
@@ -199,7 +240,10 @@ pub extern "C" fn kuxhoveza_read_event(bytes: &[u8], event: &mut [u64]) -> u64 {
 // A CALL.
 
 // The answer's numbers; false where the bytes are bad.
-pub fn decide(bytes: &[u8], answer: &mut [u64; layout::ANSWER]) -> bool {
+pub fn decide(bytes: &[u8], answer: &mut [u64; layout::ANSWER]) -> bool
+    ensures { λ r. ⌜ r ≡ is-said (decide (now (bytes .entry))) ⌝ }
+    ensures { λ _. ⌜ now (answer .exit) ≡ said-in (decide (now (bytes .entry))) (now (answer .entry)) ⌝ }
+{
     let mut sheet = [0u32; NUMBERS];
     let mut call = [0u64; layout::CALL];
     let mut run = [0u64; layout::RECORD];
@@ -211,7 +255,11 @@ pub fn decide(bytes: &[u8], answer: &mut [u64; layout::ANSWER]) -> bool {
     false
 }
 
-fn answered(answer: &[u64; layout::ANSWER], out: &mut [u8]) -> u64 {
+// What is told of an answer's numbers.
+fn answered(answer: &[u64; layout::ANSWER], out: &mut [u8]) -> u64
+    ensures { λ r. ⌜ r ≡ returned (told (length (now (out .entry))) (said (now (answer .entry)))) ⌝ }
+    ensures { λ _. ⌜ now (out .exit) ≡ left (told (length (now (out .entry))) (said (now (answer .entry)))) (now (out .entry)) ⌝ }
+{
     if answer[layout::ANSWER_KIND] == 3 {
         return packed(
             answer[layout::ANSWER_REFUSAL_NUMBER],
@@ -227,7 +275,10 @@ fn answered(answer: &[u64; layout::ANSWER], out: &mut [u8]) -> u64 {
 }
 
 #[no_mangle]
-pub extern "C" fn kuxhoveza_call(bytes: &[u8], out: &mut [u8]) -> u64 {
+pub extern "C" fn kuxhoveza_call(bytes: &[u8], out: &mut [u8]) -> u64
+    ensures { λ r. ⌜ r ≡ returned (call-bytes (now (bytes .entry)) (length (now (out .entry)))) ⌝ }
+    ensures { λ _. ⌜ now (out .exit) ≡ left (call-bytes (now (bytes .entry)) (length (now (out .entry)))) (now (out .entry)) ⌝ }
+{
     let mut answer = [0u64; layout::ANSWER];
     if decide(bytes, &mut answer) {
         return answered(&answer, out);
@@ -237,7 +288,10 @@ pub extern "C" fn kuxhoveza_call(bytes: &[u8], out: &mut [u8]) -> u64 {
 
 // The same on a sheet in numbers: the bytes are those of a call without its sheet.
 
-fn decide_on(sheet: &[u32; NUMBERS], bytes: &[u8], answer: &mut [u64; layout::ANSWER]) -> bool {
+fn decide_on(sheet: &[u32; NUMBERS], bytes: &[u8], answer: &mut [u64; layout::ANSWER]) -> bool
+    ensures { λ r. ⌜ r ≡ is-said (decide-on (now (sheet .entry)) (now (bytes .entry))) ⌝ }
+    ensures { λ _. ⌜ now (answer .exit) ≡ said-in (decide-on (now (sheet .entry)) (now (bytes .entry))) (now (answer .entry)) ⌝ }
+{
     let mut call = [0u64; layout::CALL];
     let mut run = [0u64; layout::RECORD];
     let limits = read_longs(bytes, 0, &mut call, 0, layout::CALL_HAS_RECORD);
@@ -258,7 +312,10 @@ pub extern "C" fn kuxhoveza_call_on(
     sheet_len: usize,
     bytes: &[u8],
     out: &mut [u8],
-) -> u64 {
+) -> u64
+    ensures { λ r. ⌜ r ≡ returned (call-bytes-on (now (sheet .entry)) «sheet_len» (now (bytes .entry)) (length (now (out .entry)))) ⌝ }
+    ensures { λ _. ⌜ now (out .exit) ≡ left (call-bytes-on (now (sheet .entry)) «sheet_len» (now (bytes .entry)) (length (now (out .entry)))) (now (out .entry)) ⌝ }
+{
     if sheet_len != NUMBERS {
         return receipt(layout::BAD_SHEET_LENGTH);
     }

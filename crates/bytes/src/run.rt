@@ -9,6 +9,14 @@ use codec::slots::slots_size;
 use codec::slots::slots_tidy;
 use codec::slots::write_slots;
 use host::layout;
+ghost use mathlib.Core.Path.{_≡_};
+ghost use Prim.Native.Nat.{_+_, _*_, _≤_, min};
+ghost use lib.ListN.{length, replicate};
+ghost use Rattle.laws.specs.Splice.{splice};
+ghost use Rattle.host.specs.Layout.{record-length, record-signals, signal-width, store};
+ghost use Rattle.codec.specs.Numbers.{bytes-of, part};
+ghost use Rattle.codec.specs.Stored.{place-of, Stored};
+ghost use Rattle.bytes.specs.Run.{run};
 
 // Before and after the lead of a streak, which is its count; and of a result, which is its output's tag.
 const STREAK_BEFORE: usize = 1;
@@ -21,13 +29,22 @@ const RESULT_AFTER: usize = 3;
 
 const CAPACITY: u64 = 64;
 
-// Where the stored signals end.
-fn stored_end(stored: u64) -> usize {
-    layout::RECORD_SIGNALS + layout::SIGNAL_WIDTH * (stored as usize)
+// Where the stored signals end. No more of them stand in a record than there is room for, whatever the count says.
+fn stored_end(stored: u64) -> usize
+    ensures { λ r. ⌜ r ≡ record-signals + signal-width * min stored store ⌝ }
+{
+    if stored < CAPACITY {
+        return layout::RECORD_SIGNALS + layout::SIGNAL_WIDTH * (stored as usize);
+    }
+    layout::RECORD_VISITS
 }
 
 // From bytes into numbers that are all zero.
-pub fn read_run(bytes: &[u8], start: usize, r: &mut [u64; layout::RECORD]) -> Place {
+pub fn read_run(bytes: &[u8], start: usize, r: &mut [u64; layout::RECORD]) -> Place
+    requires { ⌜ now r ≡ replicate record-length 0 ⌝ }
+    ensures { λ q. ⌜ q ≡ place-of (run .read (now (bytes .entry)) start) ⌝ }
+    ensures { λ _. ⌜ Stored (run .read (now (bytes .entry)) start) (now (r .entry)) 0 (now (r .exit)) ⌝ }
+{
     let head = read_longs(bytes, start, r, 0, layout::RECORD_SIGNALS);
     let Place::At(first) = head else {
         return Place::Bad;
@@ -74,7 +91,10 @@ pub fn read_run(bytes: &[u8], start: usize, r: &mut [u64; layout::RECORD]) -> Pl
 }
 
 // The record at a place of numbers: its count is within its capacity, and its unused slots are zero.
-pub fn run_tidy(xs: &[u64], at: usize) -> bool {
+pub fn run_tidy(xs: &[u64], at: usize) -> bool
+    requires { ⌜ at + record-length ≤ length (now xs) ⌝ }
+    ensures { λ r. ⌜ r ≡ run .tidy (part (now (xs .entry)) at (at + record-length)) ⌝ }
+{
     let stored = xs[at + layout::RECORD_STORED];
     if CAPACITY < stored {
         return false;
@@ -96,7 +116,11 @@ pub fn run_tidy(xs: &[u64], at: usize) -> bool {
         )
 }
 
-pub fn run_size(xs: &[u64], at: usize) -> usize {
+// How many bytes it takes.
+pub fn run_size(xs: &[u64], at: usize) -> usize
+    requires { ⌜ (at + record-length ≤ length (now xs)) × (length (now xs) ≤ 65536) ⌝ }
+    ensures { λ r. ⌜ r ≡ length (bytes-of (run .fields (part (now (xs .entry)) at (at + record-length)))) ⌝ }
+{
     longs_size(xs, at, at + stored_end(xs[at + layout::RECORD_STORED]))
         + longs_size(xs, at + layout::RECORD_VISITS, at + layout::RECORD_STREAKS)
         + slots_size(
@@ -115,7 +139,12 @@ pub fn run_size(xs: &[u64], at: usize) -> usize {
         )
 }
 
-pub fn write_run(out: &mut [u8], place: usize, xs: &[u64], at: usize) -> usize {
+// Its bytes are written from a place on. The place behind them.
+pub fn write_run(out: &mut [u8], place: usize, xs: &[u64], at: usize) -> usize
+    requires { ⌜ (at + record-length ≤ length (now xs)) × (place + length (bytes-of (run .fields (part (now xs) at (at + record-length)))) ≤ length (now out)) ⌝ }
+    ensures { λ r. ⌜ r ≡ place + length (bytes-of (run .fields (part (now (xs .entry)) at (at + record-length)))) ⌝ }
+    ensures { λ _. ⌜ now (out .exit) ≡ splice (now (out .entry)) place (bytes-of (run .fields (part (now (xs .entry)) at (at + record-length)))) ⌝ }
+{
     let first = write_longs(
         out,
         place,

@@ -218,6 +218,10 @@ call-resolution = 26
 abbrev pub call-answered : ℕ
 call-answered = 27
 
+-- How many numbers an event has: those of a call from its sequence on.
+abbrev pub event-length : ℕ
+event-length = 19
+
 abbrev pub call-mappings : ℕ
 call-mappings = 28
 
@@ -285,6 +289,9 @@ answer-want-field = 2
 
 abbrev pub answer-want-from : ℕ
 answer-want-from = 3
+
+abbrev pub want-length : ℕ
+want-length = 4
 
 -- A refusal.
 abbrev pub answer-refusal-number : ℕ

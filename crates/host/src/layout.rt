@@ -197,6 +197,8 @@ pub const ANSWER_WANT_FIELD: usize = 2;
 
 pub const ANSWER_WANT_FROM: usize = 3;
 
+pub const WANT: usize = 4;
+
 // A refusal.
 pub const ANSWER_REFUSAL_NUMBER: usize = 1;
 

@@ -257,14 +257,6 @@ fn node_rows(xs: &[u64], rows: usize) -> usize
     layout::NODES
 }
 
-// Every row.
-pub fn all_rows() -> Used {
-    Used {
-        signals: layout::STORE,
-        nodes: layout::NODES,
-    }
-}
-
 // None of a record that goes with no call.
 pub fn used_rows(xs: &[u64], has_record: bool, rows: usize) -> Used
     requires { ⌜ (length (now xs) ≡ record-length) × (rows ≤ nodes) ⌝ }
@@ -569,6 +561,15 @@ pub fn record_fits(xs: &[u64], used: Used) -> bool
     ensures { λ r. ⌜ r ≡ record-fits (now (xs .entry)) ⌝ }
 {
     head_fits(xs) & signals_fit(xs, used.signals) & nodes_fit(xs, used.nodes)
+}
+
+// A record by itself.
+pub fn run_fits(xs: &[u64]) -> bool
+    requires { ⌜ length (now xs) ≡ record-length ⌝ }
+    ensures { λ r. ⌜ r ≡ record-fits (now (xs .entry)) ⌝ }
+{
+    let used = used_rows(xs, true, layout::NODES);
+    record_fits(xs, used)
 }
 
 fn limits_fit(c: &[u64]) -> bool
