@@ -2,7 +2,7 @@
 mod answer;
 mod call;
 mod event;
-mod run;
+pub mod run;
 mod sheet;
 
 use crate::answer::answer_size;
