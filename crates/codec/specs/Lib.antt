@@ -8,3 +8,5 @@ pub mod Stored
 pub mod Groups
 -- laws
 pub mod Exact
+pub mod LebLaws
+pub mod NumbersLaws
