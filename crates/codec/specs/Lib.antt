@@ -10,3 +10,7 @@ pub mod Groups
 pub mod Exact
 pub mod LebLaws
 pub mod NumbersLaws
+pub mod StoredLaws
+pub mod PartLaws
+pub mod SlotsLaws
+pub mod Loops
