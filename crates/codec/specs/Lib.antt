@@ -8,9 +8,11 @@ pub mod Stored
 pub mod Groups
 -- laws
 pub mod Exact
+pub mod ReadLaws
 pub mod LebLaws
 pub mod NumbersLaws
 pub mod StoredLaws
 pub mod PartLaws
 pub mod SlotsLaws
 pub mod Loops
+pub mod SlotsLoops

@@ -3,7 +3,7 @@ use mathlib.Core.Path.{_≡_, refl, sym, ap, _∙_}
 use mathlib.Core.List.{List, [], _∷_, _++_, append-assoc, append-nil}
 use Prim.Native.Nat.{ℕ, zero, suc, _+_, _*_, _-_, _≤_, _<_}
 use native.Mathlib.Omega.{arith}
-use lib.ListN.{length, take, drop, replicate, length-append, length-replicate, replicate-append-replicate}
+use lib.ListN.{length, take, drop, replicate, length-append, take-append-drop, length-replicate, replicate-append-replicate}
 use lib.Seq.{length-take-le, drop-at, drop-drop}
 use Rattle.laws.specs.Splice.{splice, splice-none, splice-more, length-splice}
 use Rattle.codec.specs.declared.numbers.Place.{Place}
@@ -80,7 +80,7 @@ module _ {left whole : Read (List ℕ)} {list₀ : List ℕ} {first i : ℕ} {li
           long = reading-long;
         }
 
--- A list that is zero from a place on still is, behind what was written there.
+-- A list that is zero from a place on: zeros are written there already, and it still is zero behind what was written.
 drop-zeros : (k m : ℕ) → k ≤ m → drop k (replicate {A = ℕ} m 0) ≡ replicate (m - k) 0
 drop-zeros k m h =
     let e : m ≡ k + (m - k) = omega arith in
@@ -92,6 +92,16 @@ unfolding splice
 drop-splice list first ns h =
     let t = length-take-le first list (omega arith) in
     drop-at (take first list ++ ns) (drop (first + length ns) list) (first + length ns) (length-append (take first list) ns ∙ omega arith)
+
+pub zeros-there : (list : List ℕ) (first k : ℕ) → Zero-from first list → first + k ≤ length list → list ≡ splice list first (replicate k 0)
+unfolding splice
+zeros-there list first k z h =
+    let zs : List ℕ = replicate k 0 in
+    let n : length zs ≡ k = length-replicate k 0 in
+    let m : length list - first ≡ k + (length list - first - k) = omega arith in
+    let s : zs ++ replicate (length list - first - k) 0 ≡ drop first list = replicate-append-replicate k (length list - first - k) 0 ∙ rw (← m) (sym z) in
+    let d : drop (first + k) list ≡ replicate (length list - first - k) 0 = sym (drop-drop k first list) ∙ rw z (drop-zeros k (length list - first) (omega arith)) in
+    rw (n, d, append-assoc, s) (sym (take-append-drop first list))
 
 pub reading-zero : {left whole : Read (List ℕ)} {list₀ : List ℕ} {first i : ℕ} {list : List ℕ} → Reading left whole list₀ first i list → Zero-from first list₀ → Zero-from i list
 reading-zero {left} {whole} {list₀} {first} {i} {list} inv z =

@@ -1,15 +1,18 @@
 -- Parts of a list.
 use mathlib.Core.Path.{_≡_, refl, sym, ap, _∙_}
 use mathlib.Core.Bool.{Bool, true}
-use mathlib.Core.List.{List, [], _∷_, _++_}
-use Prim.Native.Nat.{ℕ, zero, suc, _+_, _-_, _≤_, _<_}
+use mathlib.Core.List.{List, [], _∷_, _++_, flatMap}
+use Prim.Native.Nat.{ℕ, zero, suc, _+_, _*_, _-_, _≤_, _<_}
+use native.Mathlib.Nat.{mul-suc}
 use native.Mathlib.Omega.{arith}
-use lib.ListN.{length, getD, take, drop, length-take, length-drop}
+use lib.ListN.{length, getD, take, drop, length-append, length-take, length-drop}
 use lib.Seq.{length-take-le, take-take, take-add, drop-at, drop-drop, getD-take, getD-drop}
 use borrow.Author.Tests.{lt-ltb}
 use Rattle.laws.specs.Bool.{_and_, both, join}
 use Rattle.laws.specs.Every.{every}
-use Rattle.codec.specs.Numbers.{all-below, part}
+use Rattle.codec.specs.Leb.{leb128}
+use Rattle.codec.specs.LebLaws.{leb-few}
+use Rattle.codec.specs.Numbers.{bytes-of, all-below, part}
 
 -- All pass where each does.
 module _ {A : Type 0} (p : A → Bool) (d : A) where
@@ -23,6 +26,23 @@ module _ {A : Type 0} (p : A → Bool) (d : A) where
   every-at [] i h l = absurd (omega arith)
   every-at (x ∷ xs) zero h l = both _ _ h .0
   every-at (x ∷ xs) (suc i) h l = every-at xs i (both _ _ h .1) (omega arith)
+
+-- A number takes at most ten bytes.
+pub bytes-few : (ns : List ℕ) → length (bytes-of ns) ≤ 10 * length ns
+unfolding flatMap
+bytes-few [] = omega arith
+bytes-few (n ∷ ns) =
+    let a = leb-few n in
+    let b = bytes-few ns in
+    rw (length-append, mul-suc) (omega arith)
+
+pub part-few : (xs : List ℕ) (first k : ℕ) → length (bytes-of (part xs first (first + k))) ≤ 10 * k
+unfolding part
+part-few xs first k =
+    let e : first + k - first ≡ k = omega arith in
+    let a = bytes-few (take (first + k - first) (drop first xs)) in
+    let b = length-take (first + k - first) (drop first xs) in
+    omega arith
 
 module _ (xs : List ℕ) (first : ℕ) where
   pub part-none : (end : ℕ) → end ≤ first → part xs first end ≡ []

@@ -16,9 +16,10 @@ use Rattle.codec.specs.Leb.{leb128}
 use Rattle.codec.specs.Numbers.{bytes-of, number-below, numbers-at, all-below}
 use Rattle.codec.specs.Stages.{Shape, numbers, beside, all-zero}
 use Rattle.codec.specs.Slots.{slot, slots}
-use Rattle.codec.specs.Exact.{Bytes, Is-read, Exact, not-bad, bytes-append, beside-exact}
+use Rattle.codec.specs.Exact.{Bytes, Is-read, Exact, bytes-append, beside-exact}
+use Rattle.codec.specs.ReadLaws.{passed}
 use Rattle.codec.specs.LebLaws.{Number-read}
-use Rattle.codec.specs.NumbersLaws.{below-back, below-only, numbers-exact}
+use Rattle.codec.specs.NumbersLaws.{below-back, below-only, numbers-exact, numbers-long}
 use Rattle.codec.specs.PartLaws.{every-each, every-at}
 
 -- A list of zeros.
@@ -162,29 +163,42 @@ module _ (top before after : ℕ) (small : top ≤ 2 ^ 64) where
           place = rw (← x, g, z, a, b, s, ← y, length-append, length-append) (omega arith);
         }
 
-    by-after : (lead p : ℕ) → Number-read bytes at lead p × (lead < top) → eqb lead 0 ≡ false → (xs : List ℕ) (q : ℕ) → Is-read (numbers top before) bytes p xs q → (r : Read (List ℕ)) → numbers-at top after bytes q ≡ r → onward r (λ ys s. got (xs ++ (lead ∷ ys)) s) ≡ got ns next → Is-read (slot top before after) bytes at ns next
-    unfolding onward numbers
-    by-after lead p i z xs q j bad f e = not-bad e
-    by-after lead p i z xs q j (got ys r) f e = only-used lead p i z xs q j ys r (numbers-exact top after small .only bytes ys q r good f) e
-
-    by-before : (lead p : ℕ) → Number-read bytes at lead p × (lead < top) → eqb lead 0 ≡ false → (r : Read (List ℕ)) → numbers-at top before bytes p ≡ r → onward r (λ xs q. onward (numbers-at top after bytes q) (λ ys s. got (xs ++ (lead ∷ ys)) s)) ≡ got ns next → Is-read (slot top before after) bytes at ns next
-    unfolding onward numbers
-    by-before lead p i z bad f e = not-bad e
-    by-before lead p i z (got xs q) f e = by-after lead p i z xs q (numbers-exact top before small .only bytes xs p q good f) (numbers-at top after bytes q) refl e
-
-    by-lead : (r : Read ℕ) → number-below top bytes at ≡ r → onward r (behind-lead bytes) ≡ got ns next → Is-read (slot top before after) bytes at ns next
-    unfolding onward if_then_else_
-    by-lead bad f e = not-bad e
-    by-lead (got lead p) f e =
-        let i = below-only top bytes at lead p good f in
-        split (eqb lead 0) (λ z. only-unused lead p i z (rw z at e)) (λ z. by-before lead p i z (numbers-at top before bytes p) refl (rw z at e))
-
     only : slot top before after .read bytes at ≡ got ns next → Is-read (slot top before after) bytes at ns next
-    unfolding slot
-    only e = by-lead (number-below top bytes at) refl e
+    unfolding slot if_then_else_ numbers
+    only e =
+        let a = passed (number-below top bytes at) (behind-lead bytes) e in
+        let i = below-only top bytes at (a .value) (a .place) good (a .one) in
+        split (eqb (a .value) 0) (λ z. only-unused (a .value) (a .place) i z (rw z at (a .two)))
+        (λ z.
+        let b = passed (numbers-at top before bytes (a .place)) _ (rw z at (a .two)) in
+        let c = passed (numbers-at top after bytes (b .place)) _ (b .two) in
+        let j = numbers-exact top before small .only bytes (b .value) (a .place) (b .place) good (b .one) in
+        let k = numbers-exact top after small .only bytes (c .value) (b .place) (c .place) good (c .one) in
+        only-used (a .value) (a .place) i z (b .value) (b .place) j (c .value) (c .place) k (c .two))
 
   pub slot-exact : Exact (slot top before after)
   slot-exact = record { long = tidy-long; back = back; only = only }
+
+-- How many numbers are read.
+module _ (top before after : ℕ) (bytes ns : List ℕ) (at next : ℕ) where
+  pub slot-long : slot top before after .read bytes at ≡ got ns next → length ns ≡ before + suc after
+  unfolding slot if_then_else_
+  slot-long e =
+      let a = passed (number-below top bytes at) _ e in
+      split (eqb (a .value) 0)
+      (λ z.
+      let f = rw z at (a .two) in
+      let zs : List ℕ = replicate (before + suc after) 0 in
+      let x : zs ≡ ns = cc in
+      rw (← x) (length-replicate (before + suc after) 0))
+      (λ z.
+      let b = passed (numbers-at top before bytes (a .place)) _ (rw z at (a .two)) in
+      let c = passed (numbers-at top after bytes (b .place)) _ (b .two) in
+      let f = c .two in
+      let x : b .value ++ (a .value ∷ c .value) ≡ ns = cc in
+      let n₁ = numbers-long top bytes before (a .place) (b .value) (b .place) (b .one) in
+      let n₂ = numbers-long top bytes after (b .place) (c .value) (c .place) (c .one) in
+      rw (← x, length-append) (omega arith))
 
 -- SLOTS.
 module _ (top before after : ℕ) where
