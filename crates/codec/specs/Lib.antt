@@ -10,3 +10,4 @@ pub mod Groups
 pub mod Exact
 pub mod LebLaws
 pub mod NumbersLaws
+pub mod StoredLaws
