@@ -11,3 +11,4 @@ pub mod Exact
 pub mod LebLaws
 pub mod NumbersLaws
 pub mod StoredLaws
+pub mod GroupsLaws

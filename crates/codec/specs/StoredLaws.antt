@@ -62,3 +62,12 @@ bad-place e = rw e
 
 pub bad-stored : {r : Read (List ℕ)} {before : List ℕ} {first : ℕ} {after : List ℕ} → r ≡ bad → length after ≡ length before → Stored r before first after
 bad-stored e long = record { is = λ ns next f. not-bad (sym e ∙ f); long = long }
+
+pub bad-number : {r : Read ℕ} → r ≡ bad → Number.Bad ≡ number-of r
+unfolding number-of
+bad-number e = rw e
+
+-- A NUMBER.
+pub got-number : {r : Read ℕ} {n next : ℕ} → r ≡ got n next → Number.Value n next ≡ number-of r
+unfolding number-of
+got-number e = rw e
