@@ -12,3 +12,4 @@ pub mod LebLaws
 pub mod NumbersLaws
 pub mod StoredLaws
 pub mod GroupsLaws
+pub mod NumbersLoops
