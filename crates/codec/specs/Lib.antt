@@ -12,6 +12,8 @@ pub mod ReadLaws
 pub mod LebLaws
 pub mod NumbersLaws
 pub mod StoredLaws
+pub mod GroupsLaws
+pub mod NumbersLoops
 pub mod PartLaws
 pub mod SlotsLaws
 pub mod Loops
