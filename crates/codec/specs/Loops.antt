@@ -6,9 +6,8 @@ use native.Mathlib.Omega.{arith}
 use lib.ListN.{length, take, drop, replicate, length-append, take-append-drop, length-replicate, replicate-append-replicate}
 use lib.Seq.{length-take-le, drop-at, drop-drop}
 use Rattle.laws.specs.Splice.{splice, splice-none, splice-more, length-splice}
-use Rattle.codec.specs.declared.numbers.Place.{Place}
 use Rattle.codec.specs.Read.{Read, got, bad, onward}
-use Rattle.codec.specs.Stored.{place-of, Stored, Zero-from}
+use Rattle.codec.specs.Stored.{Zero-from}
 
 -- What is left begins with a read, and with bytes.
 pub record Read-first (left one : Read (List ℕ)) (more : ℕ → Read (List ℕ)) : Type 0 where
@@ -64,21 +63,9 @@ module _ {left whole : Read (List ℕ)} {list₀ : List ℕ} {first i : ℕ} {li
         }
 
   -- nothing is left
-  module _ {at : ℕ} (ends : left ≡ got [] at) where
-    done : whole ≡ got (inv .seen) at
-    unfolding onward
-    done = sym (rw ends at (inv .rest)) ∙ ap (λ (l : List ℕ). got l at) (append-nil (inv .seen))
-
-    pub reading-place : Place.At at ≡ place-of whole
-    unfolding place-of
-    reading-place = rw done
-
-    pub reading-stored : Stored whole list₀ first list
-    reading-stored =
-        record {
-          is = λ ns next e. let f : got (inv .seen) at ≡ got ns next = sym done ∙ e in let x : inv .seen ≡ ns = cc in rw (← x) (inv .so-far);
-          long = reading-long;
-        }
+  pub reading-end : {at : ℕ} → left ≡ got [] at → whole ≡ got (inv .seen) at
+  unfolding onward
+  reading-end {at} ends = sym (rw ends at (inv .rest)) ∙ ap (λ (l : List ℕ). got l at) (append-nil (inv .seen))
 
 -- A list that is zero from a place on: zeros are written there already, and it still is zero behind what was written.
 drop-zeros : (k m : ℕ) → k ≤ m → drop k (replicate {A = ℕ} m 0) ≡ replicate (m - k) 0

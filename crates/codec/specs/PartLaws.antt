@@ -45,10 +45,6 @@ part-few xs first k =
     omega arith
 
 module _ (xs : List ℕ) (first : ℕ) where
-  pub part-none : (end : ℕ) → end ≤ first → part xs first end ≡ []
-  unfolding part
-  part-none end h = let e : end - first ≡ 0 = omega arith in rw e
-
   pub getD-part : (end i d : ℕ) → first + i < end → getD (part xs first end) i d ≡ getD xs (first + i) d
   unfolding part
   getD-part end i d h = getD-take (end - first) (drop first xs) i d (omega arith) ∙ getD-drop first xs i d

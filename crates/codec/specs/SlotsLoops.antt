@@ -7,12 +7,12 @@ use native.Mathlib.Nat.{mul-suc}
 use native.Mathlib.Omega.{arith}
 use lib.Dec.{ltb, eqb}
 use lib.ListN.{length, getD, take, drop, replicate, set, length-set, length-append, length-take}
-use borrow.Author.Tests.{lt-ltb, eqb-true, eqb-false, eq-eqb, ne-eqb}
+use borrow.Author.Tests.{ltb-true, lt-ltb, eqb-true, eqb-false, eq-eqb, ne-eqb}
 use Rattle.laws.specs.Bool.{if_then_else_, split, _and_, both, join}
 use Rattle.laws.specs.Every.{every}
 use Rattle.laws.specs.Splice.{splice, splice-none, splice-one, splice-more, length-splice}
 use Rattle.codec.specs.Read.{Read, got, bad, onward, tested}
-use Rattle.codec.specs.Leb.{groups, leb128, number-at}
+use Rattle.codec.specs.Leb.{groups, leb128, parse, number-at}
 use Rattle.codec.specs.Numbers.{bytes-of, number-below, numbers-at, all-below, part}
 use Rattle.codec.specs.Stages.{Shape, numbers, beside, all-zero}
 use Rattle.codec.specs.Slots.{slot, slots}
@@ -21,7 +21,8 @@ use Rattle.codec.specs.Exact.{not-bad, bytes-append}
 use Rattle.codec.specs.ReadLaws.{passed}
 use Rattle.codec.specs.LebLaws.{leb-few}
 use Rattle.codec.specs.NumbersLaws.{numbers-long}
-use Rattle.codec.specs.PartLaws.{part-few, part-none, getD-part, part-below, length-part, take-part, drop-part}
+use Rattle.codec.specs.NumbersLoops.{part-none}
+use Rattle.codec.specs.PartLaws.{part-few, getD-part, part-below, length-part, take-part, drop-part}
 use Rattle.codec.specs.Loops.{Read-first, Bytes-first, zeros-there}
 
 -- WHERE A LOOP STANDS: the slots from the nth on begin at i.
@@ -102,6 +103,18 @@ module _ (top before after : ℕ) {k end i n : ℕ} (xs : List ℕ) (inv : Ahead
   pub no-tidy : slots top before after (k - n) .tidy (part xs i end) ≡ true
   unfolding slots numbers every _and_
   no-tidy = rw (none-more top before after h, last-part)
+
+-- A number that is read is of 64 bits.
+pub number-small : (bytes : List ℕ) (at : ℕ) {n next : ℕ} → number-at bytes at ≡ got n next → n < 2 ^ 64
+unfolding number-at if_then_else_
+number-small bytes at {n} {next} e =
+    let a = passed (parse 10 (drop at bytes)) _ e in
+    split (ltb (a .value) (2 ^ 64))
+    (λ t.
+    let f = rw t at (a .two) in
+    let x : a .value ≡ n = cc in
+    rw (← x) (ltb-true (a .value) (2 ^ 64) t))
+    (λ t. not-bad (rw t at (a .two)))
 
 -- The place doesn't hang on what is made of the numbers.
 same-place : (r : Read (List ℕ)) (f : List ℕ → List ℕ) → place-of (onward r (λ ns p. got (f ns) p)) ≡ place-of r
