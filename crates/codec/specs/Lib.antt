@@ -8,3 +8,13 @@ pub mod Stored
 pub mod Groups
 -- laws
 pub mod Exact
+pub mod ReadLaws
+pub mod LebLaws
+pub mod NumbersLaws
+pub mod StoredLaws
+pub mod GroupsLaws
+pub mod NumbersLoops
+pub mod PartLaws
+pub mod SlotsLaws
+pub mod Loops
+pub mod SlotsLoops

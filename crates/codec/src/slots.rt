@@ -39,11 +39,11 @@ fn read_slot(
         return Place::At(next);
     }
     let lead = first + before;
-    out[lead] = value;
     let place = read_longs(bytes, next, out, first, lead);
     let Place::At(behind) = place else {
         return Place::Bad;
     };
+    out[lead] = value;
     read_longs(bytes, behind, out, lead + 1, lead + 1 + after)
 }
 
@@ -76,6 +76,18 @@ pub fn read_slots(
     Place::At(at)
 }
 
+// A slot that isn't used is zero.
+fn slot_tidy(xs: &[u64], first: usize, before: usize, after: usize) -> bool
+    requires { ⌜ first + (before + suc after) ≤ length (now xs) ⌝ }
+    ensures { λ r. ⌜ r ≡ slot (2 ^ 64) before after .tidy (part (now (xs .entry)) first (first + (before + suc after))) ⌝ }
+{
+    let lead = first + before;
+    if xs[lead] == 0 {
+        return longs_zero(xs, first, lead + 1 + after);
+    }
+    true
+}
+
 // Every slot that isn't used is zero.
 pub fn slots_tidy(xs: &[u64], first: usize, before: usize, after: usize, k: usize) -> bool
     requires { ⌜ first + (before + suc after) * k ≤ length (now xs) ⌝ }
@@ -84,13 +96,10 @@ pub fn slots_tidy(xs: &[u64], first: usize, before: usize, after: usize, k: usiz
     let mut i = first;
     let mut n: usize = 0;
     while n < k {
-        let end = i + before + 1 + after;
-        if xs[i + before] == 0 {
-            if !longs_zero(xs, i, end) {
-                return false;
-            }
+        if !slot_tidy(xs, i, before, after) {
+            return false;
         }
-        i = end;
+        i += before + 1 + after;
         n += 1;
     }
     true
