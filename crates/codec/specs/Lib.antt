@@ -8,3 +8,8 @@ pub mod Stored
 pub mod Groups
 -- laws
 pub mod Exact
+pub mod Zeros
+pub mod Parts
+pub mod ColumnsLaws
+pub mod ReadLoop
+pub mod WriteLoop
