@@ -10,31 +10,7 @@ use Rattle.codec.specs.Read.{Read, got, bad, onward}
 use Rattle.codec.specs.Numbers.{numbers-at}
 use Rattle.codec.specs.Stages.{Shape, numbers, beside}
 use Rattle.codec.specs.Stored.{place-of, Stored, Zero-from}
-use Rattle.codec.specs.Exact.{not-bad}
 use Rattle.codec.specs.Zeros.{zero-behind}
-
--- WHAT A PLACE SAYS of what was read.
-pub record Got {A : Type 0} (read : Read A) (next : ℕ) : Type 0 where
-  pub value : A
-  pub is : read ≡ got value next
-
-pub at-place : {A : Type 0} {place : Place} (read : Read A) (next : ℕ) → place ≡ place-of read → place ≡ Place.At next → Got read next
-unfolding place-of
-at-place bad next e h = let z : _≡_ {A = ℕ} 0 1 = cc in absurd (omega arith)
-at-place (got x p) next e h = let y : p ≡ next = cc in record { value = x; is = ap (got x) y }
-
-pub bad-place : {A : Type 0} {place : Place} (read : Read A) → place ≡ place-of read → place ≡ Place.Bad → read ≡ bad
-unfolding place-of
-bad-place bad e h = refl
-bad-place (got x p) e h = let z : _≡_ {A = ℕ} 0 1 = cc in absurd (omega arith)
-
--- Bad bytes: what is answered, and that nothing is promised of the list.
-pub place-bad : {A : Type 0} {read : Read A} → read ≡ bad → Place.Bad ≡ place-of read
-unfolding place-of
-place-bad e = rw e
-
-pub stored-bad : {read : Read (List ℕ)} {before : List ℕ} {first : ℕ} {after : List ℕ} → read ≡ bad → length after ≡ length before → Stored read before first after
-stored-bad e n = record { is = λ ns next f. not-bad (sym e ∙ f); long = n }
 
 -- THE LOOP. What was read stands in the list, which was before, from first on; the shape that is left comes behind it.
 pub record Reading (bytes : List ℕ) (whole : Read (List ℕ)) (before : List ℕ) (first : ℕ) (rest : Shape) (at i : ℕ) (list : List ℕ) : Type 0 where

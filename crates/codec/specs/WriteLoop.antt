@@ -48,3 +48,88 @@ module _ (xs : List ℕ) (i : ℕ) (rest : Shape) (none : rest ≡ numbers 0 0) 
   pub written-none : written xs rest i ≡ []
   unfolding numbers flatMap
   written-none = rw (none, nothing)
+
+-- TIDY SHAPES from a place on, for which there is room.
+pub record Ahead (xs : List ℕ) (rest : Shape) (i : ℕ) : Type 0 where
+  pub room : i + rest .width ≤ length xs
+  pub tidy : neat xs rest i ≡ true
+
+pub record Step (xs : List ℕ) (one more : Shape) (i : ℕ) : Type 0 where
+  pub room : i + one .width ≤ length xs
+  pub tidy : neat xs one i ≡ true
+  pub ahead : Ahead xs more (i + one .width)
+
+module _ {xs : List ℕ} {rest : Shape} {i : ℕ} (inv : Ahead xs rest i) where
+  pub step : (one : Shape) (more : List ℕ → Shape) (width : ℕ) → rest ≡ beside one more width → more (held xs one i) .width ≡ width → Step xs one (more (held xs one i)) i
+  unfolding beside
+  step one more width next wide =
+      let r = rw next at (inv .room) in
+      let t = both _ _ (rw (neat-next xs i rest one more width next wide) at (inv .tidy)) in
+      record { room = omega arith; tidy = t .0; ahead = record { room = omega arith; tidy = t .1 } }
+
+-- A LOOP THAT WRITES. The bytes so far stand in the list, which was before, from at on; those of the shape that is left come behind them.
+pub record Writing (whole before : List ℕ) (at : ℕ) (xs : List ℕ) (rest : Shape) (i place : ℕ) (list : List ℕ) : Type 0 where
+  pub so-far : List ℕ
+  pub left : so-far ++ written xs rest i ≡ whole
+  pub is : list ≡ splice before at so-far
+  pub there : place ≡ at + length so-far
+  pub fits : at + length whole ≤ length before
+
+pub writing-start : (before : List ℕ) (at : ℕ) (xs : List ℕ) (shape : Shape) (i : ℕ) → at + length (written xs shape i) ≤ length before → Writing (written xs shape i) before at xs shape i at before
+writing-start before at xs shape i h = record { so-far = []; left = refl; is = sym (splice-none before at); there = omega arith; fits = h }
+
+module _ {whole before : List ℕ} {at : ℕ} {xs : List ℕ} {rest : Shape} {i place : ℕ} {list : List ℕ} (inv : Writing whole before at xs rest i place list) where
+  sizes : length (inv .so-far) + length (written xs rest i) ≡ length whole
+  sizes = sym (length-append (inv .so-far) (written xs rest i)) ∙ ap length (inv .left)
+
+  pub writing-long : length list ≡ length before
+  writing-long = let s = sizes in let f = inv .fits in rw (inv .is) (length-splice before at (inv .so-far) (omega arith))
+
+  module _ (one : Shape) (more : List ℕ → Shape) (width : ℕ) (next : rest ≡ beside one more width) (wide : more (held xs one i) .width ≡ width) where
+    pub writing-room : place + length (written xs one i) ≤ length list
+    writing-room =
+        let s = rw (written-next xs i rest one more width next wide, length-append) at sizes in
+        let n = writing-long in
+        let f = inv .fits in
+        let t = inv .there in
+        omega arith
+
+    pub writing-more : {list′ : List ℕ} {p : ℕ} → p ≡ place + length (written xs one i) → list′ ≡ splice list place (written xs one i) → Writing whole before at xs (more (held xs one i)) (i + one .width) p list′
+    writing-more {list′} {p} e f =
+        let new = written xs one i in
+        let s = rw (written-next xs i rest one more width next wide, length-append) at sizes in
+        let g = inv .fits in
+        let t = inv .there in
+        let a = length-append (inv .so-far) new in
+        record {
+          so-far = inv .so-far ++ new;
+          left = append-assoc (inv .so-far) new (written xs (more (held xs one i)) (i + one .width)) ∙ (rw (written-next xs i rest one more width next wide) at (inv .left));
+          is = f ∙ ap (λ (l : List ℕ). splice l place new) (inv .is) ∙ splice-more before at (inv .so-far) new place t (omega arith);
+          there = omega arith;
+          fits = g;
+        }
+
+  module _ (none : rest ≡ numbers 0 0) where
+    all-written : inv .so-far ≡ whole
+    all-written = sym (append-nil (inv .so-far)) ∙ (rw (written-none xs i rest none) at (inv .left))
+
+    pub writing-place : place ≡ at + length whole
+    writing-place = inv .there ∙ ap (λ (l : List ℕ). at + length l) all-written
+
+    pub writing-end : list ≡ splice before at whole
+    writing-end = inv .is ∙ ap (splice before at) all-written
+
+-- A LOOP THAT COUNTS the bytes.
+pub record Counting (whole : List ℕ) (xs : List ℕ) (rest : Shape) (i size : ℕ) : Type 0 where
+  pub left : size + length (written xs rest i) ≡ length whole
+  pub few : size ≤ 10 * i
+
+module _ {whole : List ℕ} {xs : List ℕ} {rest : Shape} {i size : ℕ} (inv : Counting whole xs rest i size) where
+  pub counting-more : (one : Shape) (more : List ℕ → Shape) (width : ℕ) → rest ≡ beside one more width → more (held xs one i) .width ≡ width → {s : ℕ} → s ≡ length (written xs one i) → s ≤ 10 * one .width → Counting whole xs (more (held xs one i)) (i + one .width) (size + s)
+  counting-more one more width next wide {s} e few =
+      let l = rw (written-next xs i rest one more width next wide, length-append) at (inv .left) in
+      let f = inv .few in
+      record { left = omega arith; few = omega arith }
+
+  pub counting-end : rest ≡ numbers 0 0 → size ≡ length whole
+  counting-end none = let l = rw (written-none xs i rest none) at (inv .left) in omega arith
