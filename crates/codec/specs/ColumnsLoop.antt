@@ -89,9 +89,9 @@ module _ (top room used : ℕ) (bytes : List ℕ) (at : ℕ) (low : used ≤ roo
   column-stored {l} {i} {l′} h z s =
       record {
         is = λ ns p e.
-        let f = filled-up ns p e in
-        let n = f .long in
-        rw (← f .full) (s .is (f .xs) p (f .is) ∙ sym (splice-padded l i z room (f .xs) (omega arith) h));
+            let f = filled-up ns p e in
+            let n = f .long in
+            rw (← f .full) (s .is (f .xs) p (f .is) ∙ sym (splice-padded l i z room (f .xs) (omega arith) h));
         long = s .long;
       }
 
@@ -162,9 +162,9 @@ module _ {top : ℕ} {rooms used bytes : List ℕ} {whole : Read (List ℕ)} {be
           let r = at-got answered g in
           record {
             reading = reading-more (inv .reading) _ _ _ (left-next top rooms used c h) (r .value) p list′ (r .is)
-            (column-long top (getD rooms c 0) (getD used c 0) bytes at low (r .value) p (r .is))
-            (columns-width top (drop (c + 1) rooms) (drop (c + 1) used))
-            (column-stored top (getD rooms c 0) (getD used c 0) bytes at low read-room (inv .reading .blank) (rw e at s));
+                (column-long top (getD rooms c 0) (getD used c 0) bytes at low (r .value) p (r .is))
+                (columns-width top (drop (c + 1) rooms) (drop (c + 1) used))
+                (column-stored top (getD rooms c 0) (getD used c 0) bytes at low read-room (inv .reading .blank) (rw e at s));
           }
 
   module _ (h : length rooms ≤ c) where

@@ -1,0 +1,82 @@
+-- `codec::columns::write_columns` meets its contract. Assumes nothing.
+use native.Mathlib.Omega.{arith}
+use borrow.Author.Needs.{needs}
+use Prim.Native.Nat.{_+_, _-_, _^_}
+use lib.ListN.{length}
+use Rattle.codec.specs.Numbers.{bytes-of, part}
+use Rattle.codec.specs.Stages.{total, columns}
+use Rattle.codec.specs.ColumnsLoop.{tidy-start, tidy-room, tidy-low, Writing-columns, write-start, write-long, write-room, write-more, write-place, write-end}
+use Rattle.codec.proofs.columns.write_columns.Statement.{statement}
+use Rattle.codec.proofs.columns.write_columns.Tie as tie
+use Rattle.codec.proofs.columns.write_columns.Reads as reads
+use Rattle.codec.proofs.columns.write_columns.Lts as lts
+use Rattle.codec.proofs.numbers.write_numbers.Reads as write-numbers-reads
+
+abbrev Inv-loop : tie.InvT-loop
+Inv-loop out₀ at xs first rooms used place₀ i₀ c₀ out place i c = Writing-columns (2 ^ 32) rooms used xs (bytes-of (columns (2 ^ 32) rooms used .fields (part xs first (first + total rooms)))) out₀ at i c place out
+
+abbrev μ-loop : tie.MeasureT-loop
+μ-loop out₀ at xs first rooms used place₀ i₀ c₀ out place i c = length rooms - c
+
+loop-holds : tie.Need-loop-holds Inv-loop μ-loop
+loop-holds c =
+    let s = c .before .before .before .before in
+    write-start (s .args .out .now) (s .args .at) (tidy-start (2 ^ 32) (s .args .rooms .now) (s .args .used .now) (s .args .xs .now) (s .args .first) (s .pre .0 .0) (s .pre .1 .0)) (s .pre .1 .1)
+
+mul-write-numbers : tie.Need-mul-write-numbers Inv-loop μ-loop
+mul-write-numbers c = search needs
+
+shared-slice-read-write-numbers : tie.Need-shared-slice-read-write-numbers Inv-loop μ-loop
+shared-slice-read-write-numbers c = search needs
+
+add-write-numbers : tie.Need-add-write-numbers Inv-loop μ-loop
+add-write-numbers c = omega (arith, tidy-low (c .before .before .before .loop .inv .tidy) (c .before .before .loop-test .taken), tidy-room (c .before .before .before .loop .inv .tidy) (c .before .before .loop-test .taken))
+
+write-numbers-requires : tie.Need-write-numbers-requires Inv-loop μ-loop
+write-numbers-requires c κs = (omega arith, omega (arith, tidy-low (c .before .before .before .loop .inv .tidy) (c .before .before .loop-test .taken), tidy-room (c .before .before .before .loop .inv .tidy) (c .before .before .loop-test .taken)), write-room (c .before .before .before .loop .inv) (c .before .before .loop-test .taken))
+
+mul-i : tie.Need-mul-i Inv-loop μ-loop
+mul-i c = search needs
+
+shared-slice-read-i : tie.Need-shared-slice-read-i Inv-loop μ-loop
+shared-slice-read-i c = search needs
+
+add-i : tie.Need-add-i Inv-loop μ-loop
+add-i c = omega (arith, tidy-room (c .before .before .before .before .before .before .before .loop .inv .tidy) (c .before .before .before .before .before .before .loop-test .taken))
+
+add-c : tie.Need-add-c Inv-loop μ-loop
+add-c c = search needs
+
+loop-less : tie.Need-loop-less Inv-loop μ-loop
+loop-less c = search needs
+
+loop-again : tie.Need-loop-again Inv-loop μ-loop
+loop-again c =
+    let e = c .before .before .before .write-numbers .ensures in
+    write-more (c .before .before .before .before .before .before .before .loop .inv) (c .before .before .before .before .before .before .loop-test .taken) (e .0) (e .1)
+
+same-length : tie.Need-same-length Inv-loop μ-loop
+same-length c = write-long (c .before .loop .inv)
+
+returns : tie.Need-returns Inv-loop μ-loop
+returns c = (write-place (c .before .loop .inv) (c .loop-test .left), write-end (c .before .loop .inv) (c .loop-test .left))
+
+pub write-columns-spec : {M : Type 1} → statement M
+write-columns-spec =
+    tie.close
+    (tie.spec
+    Inv-loop
+    μ-loop
+    loop-holds
+    mul-write-numbers
+    shared-slice-read-write-numbers
+    add-write-numbers
+    write-numbers-requires
+    mul-i
+    shared-slice-read-i
+    add-i
+    add-c
+    loop-less
+    loop-again
+    same-length
+    returns)
