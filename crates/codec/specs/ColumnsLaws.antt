@@ -1,21 +1,21 @@
 -- Columns and stages, both ways: what is written is read back, and only what is written is read.
-use mathlib.Core.Path.{_≡_, refl, sym, ap, _∙_}
-use mathlib.Core.Bool.{true, false}
+use mathlib.Core.Path.{_≡_, refl, _∙_}
+use mathlib.Core.Bool.{true}
 use mathlib.Core.List.{List, [], _∷_, _++_}
-use Prim.Native.Nat.{ℕ, zero, suc, _+_, _-_, _^_, _≤_, _<_}
+use Prim.Native.Nat.{ℕ, _+_, _-_, _^_, _≤_}
 use native.Mathlib.Omega.{arith}
-use lib.Dec.{ltb, leb, eqb}
-use lib.ListN.{length, getD, take, drop, replicate, length-drop, take-append-drop}
+use lib.Dec.{ltb}
+use lib.ListN.{length, getD, take, drop, length-drop, take-append-drop}
 use lib.Seq.{length-take-le}
 use borrow.Author.Tests.{ltb-false, le-ltb, leb-true, le-leb, eqb-true, eq-eqb}
-use Rattle.laws.specs.Bool.{if_then_else_, split, _and_, both, join}
+use Rattle.laws.specs.Bool.{if_then_else_, split, both, join}
 use Rattle.laws.specs.Listing.{padded}
 use Rattle.laws.specs.All.{All}
 use Rattle.codec.specs.Read.{Read, got, bad, onward}
 use Rattle.codec.specs.Numbers.{bytes-of, numbers-at, all-below}
-use Rattle.codec.specs.Stages.{Shape, numbers, column, beside, total, columns, Stage, widths, staged, all-zero}
+use Rattle.codec.specs.Stages.{numbers, column, beside, total, columns, Stage, widths, staged, all-zero}
 use Rattle.codec.specs.Exact.{Bytes, Is-read, Exact, not-bad, beside-exact}
-use Rattle.codec.specs.NumbersLaws.{numbers-long, numbers-exact}
+use Rattle.codec.specs.NumbersLaws.{numbers-exact}
 use Rattle.codec.specs.Zeros.{all-zeros, zeros, padded-long, take-padded, drop-padded}
 
 -- ONE COLUMN.

@@ -12,9 +12,9 @@ pub mod LebLaws
 pub mod NumbersLaws
 pub mod StoredLaws
 pub mod GroupsLaws
+pub mod NumbersLoops
 pub mod Zeros
 pub mod Parts
 pub mod ColumnsLaws
-pub mod ReadLoop
-pub mod WriteLoop
-pub mod ColumnsLoop
+pub mod ShapesLoops
+pub mod ColumnsLoops

@@ -1,14 +1,14 @@
 -- The numbers of a list from a place up to another: in two parts, and below a bound.
 use mathlib.Core.Path.{_≡_, refl, sym, ap, _∙_}
-use mathlib.Core.Bool.{Bool, true, false}
-use mathlib.Core.List.{List, [], _∷_, _++_}
+use mathlib.Core.Bool.{Bool, true}
+use mathlib.Core.List.{List, [], _∷_}
 use Prim.Native.Nat.{ℕ, zero, suc, _+_, _-_, _≤_, _<_}
 use native.Mathlib.Omega.{arith}
 use lib.Dec.{ltb}
 use lib.ListN.{length, getD, take, drop, length-drop}
-use lib.Seq.{length-take-le, take-nil, drop-nil, take-take, drop-drop}
+use lib.Seq.{length-take-le, take-nil, take-take, drop-drop}
 use borrow.Author.Tests.{lt-ltb}
-use Rattle.laws.specs.Bool.{_and_, both, join}
+use Rattle.laws.specs.Bool.{both, join}
 use Rattle.laws.specs.Every.{every}
 use Rattle.codec.specs.Numbers.{part, all-below}
 

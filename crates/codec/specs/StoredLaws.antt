@@ -4,6 +4,7 @@ use mathlib.Core.List.{List}
 use Prim.Native.Nat.{ℕ}
 use native.Mathlib.Omega.{arith}
 use lib.ListN.{length}
+use Rattle.laws.specs.Splice.{splice}
 use Rattle.codec.specs.declared.number.Number.{Number}
 use Rattle.codec.specs.declared.numbers.Place.{Place}
 use Rattle.codec.specs.Read.{Read, got, bad}
@@ -67,7 +68,21 @@ pub bad-number : {r : Read ℕ} → r ≡ bad → Number.Bad ≡ number-of r
 unfolding number-of
 bad-number e = rw e
 
--- A NUMBER.
+-- WHAT WAS READ.
 pub got-number : {r : Read ℕ} {n next : ℕ} → r ≡ got n next → Number.Value n next ≡ number-of r
 unfolding number-of
 got-number e = rw e
+
+pub got-place : {A : Type 0} {r : Read A} {x : A} {next : ℕ} → r ≡ got x next → Place.At next ≡ place-of r
+unfolding place-of
+got-place e = rw e
+
+pub got-stored : {r : Read (List ℕ)} {before : List ℕ} {first : ℕ} {after ns : List ℕ} {next : ℕ} → r ≡ got ns next → after ≡ splice before first ns → length after ≡ length before → Stored r before first after
+got-stored {r} {before} {first} {after} {ns} {next} e s long =
+    record {
+      is = λ ms q f.
+          let g : got ns next ≡ got ms q = sym e ∙ f in
+          let x : ns ≡ ms = cc in
+          s ∙ ap (λ (ks : List ℕ). splice before first ks) x;
+      long = long;
+    }

@@ -1,12 +1,11 @@
 -- Lists of zeros, and lists that are zero from a place on.
 use mathlib.Core.Path.{_≡_, refl, sym, ap, _∙_}
-use mathlib.Core.Bool.{true, false}
+use mathlib.Core.Bool.{true}
 use mathlib.Core.List.{List, [], _∷_, _++_, append-assoc}
 use Prim.Native.Nat.{ℕ, zero, suc, _+_, _-_, _≤_}
 use native.Mathlib.Omega.{arith}
-use lib.Dec.{eqb}
 use lib.ListN.{length, take, drop, replicate, length-append, length-replicate, replicate-append-replicate}
-use lib.Seq.{take-at, drop-at, drop-nil, drop-drop, length-take-le}
+use lib.Seq.{take-at, drop-at, drop-drop, length-take-le}
 use borrow.Author.Tests.{eqb-true}
 use Rattle.laws.specs.Bool.{_and_, both}
 use Rattle.laws.specs.Every.{every}

@@ -10,3 +10,4 @@ pub mod Settle
 pub mod Arrays
 pub mod Tests
 pub mod Splice
+pub mod Zeros

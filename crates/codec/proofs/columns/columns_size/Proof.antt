@@ -5,7 +5,7 @@ use Prim.Native.Nat.{_+_, _-_, _^_}
 use lib.ListN.{length}
 use Rattle.codec.specs.Numbers.{bytes-of, part}
 use Rattle.codec.specs.Stages.{total, columns}
-use Rattle.codec.specs.ColumnsLoop.{tidy-start, tidy-room, tidy-low, Counting-columns, count-start, count-few, count-more, count-end}
+use Rattle.codec.specs.ColumnsLoops.{tidy-start, tidy-room, tidy-low, Counting-columns, count-start, count-few, count-more, count-end}
 use Rattle.codec.proofs.columns.columns_size.Statement.{statement}
 use Rattle.codec.proofs.columns.columns_size.Tie as tie
 use Rattle.codec.proofs.columns.columns_size.Reads as reads

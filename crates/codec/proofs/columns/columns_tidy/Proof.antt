@@ -5,7 +5,7 @@ use Prim.Native.Nat.{_+_, _-_, _^_}
 use lib.ListN.{length}
 use Rattle.codec.specs.Numbers.{part}
 use Rattle.codec.specs.Stages.{total, columns}
-use Rattle.codec.specs.ColumnsLoop.{Testing-columns, test-start, test-room, test-over, test-dirty, test-more, test-end}
+use Rattle.codec.specs.ColumnsLoops.{Testing-columns, test-start, test-room, test-over, test-dirty, test-more, test-end}
 use Rattle.codec.proofs.columns.columns_tidy.Statement.{statement}
 use Rattle.codec.proofs.columns.columns_tidy.Tie as tie
 use Rattle.codec.proofs.columns.columns_tidy.Reads as reads

@@ -2,11 +2,11 @@
 use mathlib.Core.Path.{_∙_}
 use native.Mathlib.Omega.{arith}
 use borrow.Author.Needs.{needs}
-use Prim.Native.Nat.{_+_, _-_, _^_}
+use Prim.Native.Nat.{_-_, _^_}
 use lib.ListN.{length}
 use Rattle.codec.specs.Stages.{columns}
 use Rattle.codec.specs.StoredLaws.{bad-place, bad-stored}
-use Rattle.codec.specs.ColumnsLoop.{Reading-columns, read-start, read-long, read-room, read-over, read-bad, read-more, read-place, read-stored}
+use Rattle.codec.specs.ColumnsLoops.{Reading-columns, read-start, read-long, read-room, read-over, read-bad, read-more, read-place, read-stored}
 use Rattle.codec.proofs.columns.read_columns.Statement.{statement}
 use Rattle.codec.proofs.columns.read_columns.Tie as tie
 use Rattle.codec.proofs.columns.read_columns.Reads as reads

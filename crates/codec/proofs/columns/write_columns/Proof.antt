@@ -5,7 +5,7 @@ use Prim.Native.Nat.{_+_, _-_, _^_}
 use lib.ListN.{length}
 use Rattle.codec.specs.Numbers.{bytes-of, part}
 use Rattle.codec.specs.Stages.{total, columns}
-use Rattle.codec.specs.ColumnsLoop.{tidy-start, tidy-room, tidy-low, Writing-columns, write-start, write-long, write-room, write-more, write-place, write-end}
+use Rattle.codec.specs.ColumnsLoops.{tidy-start, tidy-room, tidy-low, Writing-columns, write-start, write-long, write-room, write-more, write-place, write-end}
 use Rattle.codec.proofs.columns.write_columns.Statement.{statement}
 use Rattle.codec.proofs.columns.write_columns.Tie as tie
 use Rattle.codec.proofs.columns.write_columns.Reads as reads

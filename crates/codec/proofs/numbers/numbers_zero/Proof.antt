@@ -1,41 +1,42 @@
+use Prim.Native.Nat.{_-_}
+use native.Mathlib.Omega.{arith}
+use borrow.Author.Needs.{needs}
+use lib.ListN.{getD}
+use Rattle.laws.specs.Zeros.{Dirt, dirt-start, dirt-more, dirt-end}
+use Rattle.codec.specs.Numbers.{part}
+use Rattle.codec.specs.Stages.{all-zero}
+use Rattle.codec.specs.NumbersLoops.{part-span}
 use Rattle.codec.proofs.numbers.numbers_zero.Statement.{statement}
 use Rattle.codec.proofs.numbers.numbers_zero.Tie as tie
 use Rattle.codec.proofs.numbers.numbers_zero.Reads as reads
 use Rattle.codec.proofs.numbers.numbers_zero.Lts as lts
 
 abbrev Inv-loop : tie.InvT-loop
-Inv-loop xs first end dirt₀ i₀ dirt i = ?
+Inv-loop xs first end dirt₀ i₀ dirt i = Dirt (λ j. getD xs j 0) end i dirt (all-zero (part xs first end))
 
 abbrev μ-loop : tie.MeasureT-loop
-μ-loop xs first end dirt₀ i₀ dirt i = ?
+μ-loop xs first end dirt₀ i₀ dirt i = end - i
 
--- src/numbers.rt:131:5
 loop-holds : tie.Need-loop-holds Inv-loop μ-loop
-loop-holds c = ?
+loop-holds c = rw (part-span _ _ _ (c .pre .0) (c .pre .1)) dirt-start
 
--- src/numbers.rt:132:23
 mul-dirt : tie.Need-mul-dirt Inv-loop μ-loop
-mul-dirt c = ?
+mul-dirt c = search needs
 
--- src/numbers.rt:132:23
 shared-slice-read-dirt : tie.Need-shared-slice-read-dirt Inv-loop μ-loop
-shared-slice-read-dirt c = ?
+shared-slice-read-dirt c = search needs
 
--- src/numbers.rt:133:9
 add-i : tie.Need-add-i Inv-loop μ-loop
-add-i c = ?
+add-i c = search needs
 
--- src/numbers.rt:131:5
 loop-less : tie.Need-loop-less Inv-loop μ-loop
-loop-less c = ?
+loop-less c = search needs
 
--- src/numbers.rt:131:5
 loop-again : tie.Need-loop-again Inv-loop μ-loop
-loop-again c = ?
+loop-again c = dirt-more (c .before .before .loop .inv) (omega arith)
 
--- src/numbers.rt:125:1
 returns : tie.Need-returns Inv-loop μ-loop
-returns c = ?
+returns c = dirt-end (c .before .loop .inv) (omega arith)
 
 pub numbers-zero-spec : {M : Type 1} → statement M
 numbers-zero-spec =

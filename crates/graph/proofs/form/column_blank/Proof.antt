@@ -4,7 +4,7 @@ use mathlib.Core.Path.{_≡_}
 use Prim.Native.Nat.{_+_, _-_}
 use lib.ListN.{getD}
 use Rattle.workflow.specs.View.{column-blank}
-use Rattle.graph.specs.FormLaws.{Dirt, dirt-start, dirt-more, dirt-end}
+use Rattle.laws.specs.Zeros.{Dirt, dirt-start, dirt-more, dirt-end}
 use Rattle.graph.proofs.form.column_blank.Statement.{statement}
 use Rattle.graph.proofs.form.column_blank.Tie as tie
 

@@ -1,7 +1,7 @@
 use borrow.Author.Needs.{needs}
 use native.Mathlib.Omega.{arith}
 use Prim.Native.Nat.{_-_}
-use Rattle.graph.specs.FormLaws.{Dirt, dirt-start, dirt-more, dirt-end}
+use Rattle.laws.specs.Zeros.{Dirt, dirt-start, dirt-more, dirt-end}
 use Rattle.host.specs.Read.{at}
 use Rattle.host.specs.ByCount.{blank}
 use Rattle.host.proofs.read.blank.Statement.{statement}

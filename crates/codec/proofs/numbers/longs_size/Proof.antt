@@ -1,0 +1,63 @@
+use Prim.Native.Nat.{_-_}
+use native.Mathlib.Omega.{arith}
+use borrow.Author.Needs.{needs}
+use Rattle.codec.specs.NumbersLoops.{Sizing, sizing-start, sizing-more, sizing-end}
+use Rattle.codec.proofs.numbers.longs_size.Statement.{statement}
+use Rattle.codec.proofs.numbers.longs_size.Tie as tie
+use Rattle.codec.proofs.numbers.longs_size.Reads as reads
+use Rattle.codec.proofs.numbers.longs_size.Lts as lts
+use Rattle.codec.proofs.number.number_size.Reads as number-size-reads
+
+abbrev Inv-loop : tie.InvT-loop
+Inv-loop xs first end size₀ i₀ size i = Sizing xs first end i size
+
+abbrev μ-loop : tie.MeasureT-loop
+μ-loop xs first end size₀ i₀ size i = end - i
+
+loop-holds : tie.Need-loop-holds Inv-loop μ-loop
+loop-holds c = sizing-start (c .before .pre .0)
+
+mul-number-size : tie.Need-mul-number-size Inv-loop μ-loop
+mul-number-size c = search needs
+
+shared-slice-read-number-size : tie.Need-shared-slice-read-number-size Inv-loop μ-loop
+shared-slice-read-number-size c = search needs
+
+number-size-requires : tie.Need-number-size-requires Inv-loop μ-loop
+number-size-requires c κs = search needs
+
+add-size : tie.Need-add-size Inv-loop μ-loop
+add-size c =
+    let c1 = c .before .before in
+    let more = sizing-more (c1 .before .loop .inv) (c .number-size .ensures) (c1 .loop-test .taken) (omega arith) in
+    omega (arith, more .few, more .high)
+
+add-i : tie.Need-add-i Inv-loop μ-loop
+add-i c = search needs
+
+loop-less : tie.Need-loop-less Inv-loop μ-loop
+loop-less c = search needs
+
+loop-again : tie.Need-loop-again Inv-loop μ-loop
+loop-again c =
+    let c1 = c .before .before in
+    sizing-more (c1 .before .loop .inv) (c .number-size .ensures) (c1 .loop-test .taken) (omega arith)
+
+returns : tie.Need-returns Inv-loop μ-loop
+returns c = sizing-end (c .before .loop .inv) (c .loop-test .left)
+
+pub longs-size-spec : {M : Type 1} → statement M
+longs-size-spec =
+    tie.close
+    (tie.spec
+    Inv-loop
+    μ-loop
+    loop-holds
+    mul-number-size
+    shared-slice-read-number-size
+    number-size-requires
+    add-size
+    add-i
+    loop-less
+    loop-again
+    returns)
