@@ -1,4 +1,3 @@
--- `codec::columns::read_columns` meets its contract. Assumes nothing.
 use mathlib.Core.Path.{_∙_}
 use native.Mathlib.Omega.{arith}
 use borrow.Author.Needs.{needs}
@@ -9,9 +8,6 @@ use Rattle.codec.specs.StoredLaws.{bad-place, bad-stored}
 use Rattle.codec.specs.ColumnsLoops.{Reading-columns, read-start, read-long, read-room, read-over, read-bad, read-more, read-place, read-stored}
 use Rattle.codec.proofs.columns.read_columns.Statement.{statement}
 use Rattle.codec.proofs.columns.read_columns.Tie as tie
-use Rattle.codec.proofs.columns.read_columns.Reads as reads
-use Rattle.codec.proofs.columns.read_columns.Lts as lts
-use Rattle.codec.proofs.numbers.read_numbers.Reads as read-numbers-reads
 
 abbrev Inv-loop : tie.InvT-loop
 Inv-loop bytes start out₀ first rooms used at₀ i₀ c₀ out at i c = Reading-columns (2 ^ 32) rooms used bytes (columns (2 ^ 32) rooms used .read bytes start) out₀ first at i c out
@@ -24,73 +20,46 @@ loop-holds c =
     let s = c .before .before .before .before in
     read-start (2 ^ 32) (s .args .rooms .now) (s .args .used .now) (s .args .bytes .now) (s .args .out .now) (s .args .first) (s .args .start) (s .pre .0) (s .pre .2)
 
-mul-if1 : tie.Need-mul-if1 Inv-loop μ-loop
-mul-if1 c = search needs
-
-shared-slice-read-if1 : tie.Need-shared-slice-read-if1 Inv-loop μ-loop
-shared-slice-read-if1 c = search needs
-
-mul-if1-2 : tie.Need-mul-if1-2 Inv-loop μ-loop
-mul-if1-2 c = search needs
-
-shared-slice-read-if1-2 : tie.Need-shared-slice-read-if1-2 Inv-loop μ-loop
-shared-slice-read-if1-2 c = search needs
-
 same-length : tie.Need-same-length Inv-loop μ-loop
 same-length c = read-long (c .before .before .before .before .loop .inv)
 
 returns : tie.Need-returns Inv-loop μ-loop
 returns c =
-    let o = read-over (c .before .before .before .before .loop .inv) (c .before .before .before .loop-test .taken) (c .if1 .taken) in
-    (bad-place o, bad-stored o (read-long (c .before .before .before .before .loop .inv)))
-
-mul-read-numbers : tie.Need-mul-read-numbers Inv-loop μ-loop
-mul-read-numbers c = search needs
-
-shared-slice-read-read-numbers : tie.Need-shared-slice-read-read-numbers Inv-loop μ-loop
-shared-slice-read-read-numbers c = search needs
+    let l = c .before .before .before in
+    let o = read-over (l .before .loop .inv) (l .loop-test .taken) (c .if1 .taken) in
+    (bad-place o, bad-stored o (read-long (l .before .loop .inv)))
 
 add-read-numbers : tie.Need-add-read-numbers Inv-loop μ-loop
-add-read-numbers c = omega (arith, read-room (c .before .before .before .before .before .before .loop .inv) (c .before .before .before .before .before .loop-test .taken), read-long (c .before .before .before .before .before .before .loop .inv), c .before .before .if1 .left)
+add-read-numbers c =
+    let l = c .before .before .before .before .before in
+    omega (arith, read-room (l .before .loop .inv) (l .loop-test .taken), read-long (l .before .loop .inv), c .before .before .if1 .left)
 
 read-numbers-requires : tie.Need-read-numbers-requires Inv-loop μ-loop
-read-numbers-requires c κs = (omega arith, omega (arith, read-room (c .before .before .before .before .before .before .loop .inv) (c .before .before .before .before .before .loop-test .taken), c .before .before .if1 .left))
-
-enum-known-place : tie.Need-enum-known-place Inv-loop μ-loop
-enum-known-place c = search needs
-
-enum-told : tie.Need-enum-told Inv-loop μ-loop
-enum-told c = search needs
+read-numbers-requires c κs =
+    let l = c .before .before .before .before .before in
+    (omega arith, omega (arith, read-room (l .before .loop .inv) (l .loop-test .taken), c .before .before .if1 .left))
 
 same-length-2 : tie.Need-same-length-2 Inv-loop μ-loop
 same-length-2 c = c .before .before .before .before .read-numbers .ensures .1 .long ∙ read-long (c .before .before .before .before .before .before .before .before .before .before .before .loop .inv)
 
 returns-2 : tie.Need-returns-2 Inv-loop μ-loop
 returns-2 c =
-    let i = c .before .before .before .before .before .before .before .before .before .before .before .loop .inv in
+    let l = c .before .before .before .before .before .before .before .before .before .before in
+    let i = l .before .loop .inv in
     let e = c .before .before .before .before .read-numbers .ensures in
-    let o = read-bad i (c .before .before .before .before .before .before .before .before .before .before .loop-test .taken) (c .before .before .before .before .before .before .before .if1 .left) (e .0) (c .enum-told .given .1) in
+    let o = read-bad i (l .loop-test .taken) (c .before .before .before .before .before .before .before .if1 .left) (e .0) (c .enum-told .given .1) in
     (bad-place o, bad-stored o (e .1 .long ∙ read-long i))
 
-mul-i : tie.Need-mul-i Inv-loop μ-loop
-mul-i c = search needs
-
-shared-slice-read-i : tie.Need-shared-slice-read-i Inv-loop μ-loop
-shared-slice-read-i c = search needs
-
 add-i : tie.Need-add-i Inv-loop μ-loop
-add-i c = omega (arith, read-room (c .before .before .before .before .before .before .before .before .before .before .before .before .before .loop .inv) (c .before .before .before .before .before .before .before .before .before .before .before .before .loop-test .taken), read-long (c .before .before .before .before .before .before .before .before .before .before .before .before .before .loop .inv))
-
-add-c : tie.Need-add-c Inv-loop μ-loop
-add-c c = search needs
-
-loop-less : tie.Need-loop-less Inv-loop μ-loop
-loop-less c = search needs
+add-i c =
+    let l = c .before .before .before .before .before .before .before .before .before .before .before .before in
+    omega (arith, read-room (l .before .loop .inv) (l .loop-test .taken), read-long (l .before .loop .inv))
 
 loop-again : tie.Need-loop-again Inv-loop μ-loop
 loop-again c =
+    let l = c .before .before .before .before .before .before .before .before .before .before .before .before in
     let e = c .before .before .before .before .before .before .read-numbers .ensures in
-    read-more (c .before .before .before .before .before .before .before .before .before .before .before .before .before .loop .inv) (c .before .before .before .before .before .before .before .before .before .before .before .before .loop-test .taken) (c .before .before .before .before .before .before .before .before .before .if1 .left) (e .0) (c .before .before .place .given .1) (e .1)
+    read-more (l .before .loop .inv) (l .loop-test .taken) (c .before .before .before .before .before .before .before .before .before .if1 .left) (e .0) (c .before .before .place .given .1) (e .1)
 
 same-length-3 : tie.Need-same-length-3 Inv-loop μ-loop
 same-length-3 c = read-long (c .before .loop .inv)
@@ -105,25 +74,25 @@ read-columns-spec =
     Inv-loop
     μ-loop
     loop-holds
-    mul-if1
-    shared-slice-read-if1
-    mul-if1-2
-    shared-slice-read-if1-2
+    (λ c. search needs)
+    (λ c. search needs)
+    (λ c. search needs)
+    (λ c. search needs)
     same-length
     returns
-    mul-read-numbers
-    shared-slice-read-read-numbers
+    (λ c. search needs)
+    (λ c. search needs)
     add-read-numbers
     read-numbers-requires
-    enum-known-place
-    enum-told
+    (λ c. search needs)
+    (λ c. search needs)
     same-length-2
     returns-2
-    mul-i
-    shared-slice-read-i
+    (λ c. search needs)
+    (λ c. search needs)
     add-i
-    add-c
-    loop-less
+    (λ c. search needs)
+    (λ c. search needs)
     loop-again
     same-length-3
     returns-3)
