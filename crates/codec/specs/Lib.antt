@@ -18,3 +18,8 @@ pub mod PartLaws
 pub mod SlotsLaws
 pub mod Loops
 pub mod SlotsLoops
+pub mod Zeros
+pub mod Parts
+pub mod ColumnsLaws
+pub mod ShapesLoops
+pub mod ColumnsLoops
