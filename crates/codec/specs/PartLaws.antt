@@ -1,16 +1,15 @@
 -- Parts of a list.
-use mathlib.Core.Path.{_≡_, refl, sym, ap, _∙_}
+use mathlib.Core.Path.{_≡_, refl, _∙_}
 use mathlib.Core.Bool.{Bool, true}
-use mathlib.Core.List.{List, [], _∷_, _++_, flatMap}
+use mathlib.Core.List.{List, [], _∷_, flatMap}
 use Prim.Native.Nat.{ℕ, zero, suc, _+_, _*_, _-_, _≤_, _<_}
 use native.Mathlib.Nat.{mul-suc}
 use native.Mathlib.Omega.{arith}
 use lib.ListN.{length, getD, take, drop, length-append, length-take, length-drop}
 use lib.Seq.{length-take-le, take-take, take-add, drop-at, drop-drop, getD-take, getD-drop}
 use borrow.Author.Tests.{lt-ltb}
-use Rattle.laws.specs.Bool.{_and_, both, join}
+use Rattle.laws.specs.Bool.{both, join}
 use Rattle.laws.specs.Every.{every}
-use Rattle.codec.specs.Leb.{leb128}
 use Rattle.codec.specs.LebLaws.{leb-few}
 use Rattle.codec.specs.Numbers.{bytes-of, all-below, part}
 

@@ -2,25 +2,25 @@
 use mathlib.Core.Path.{_≡_, refl, sym, ap, _∙_}
 use mathlib.Core.Bool.{Bool, true, false}
 use mathlib.Core.List.{List, [], _∷_, _++_, flatMap, append-assoc, append-nil}
-use Prim.Native.Nat.{ℕ, zero, suc, _+_, _*_, _-_, _^_, _≤_, _<_}
+use Prim.Native.Nat.{ℕ, zero, suc, _+_, _*_, _^_, _≤_, _<_}
 use native.Mathlib.Nat.{mul-suc}
 use native.Mathlib.Omega.{arith}
-use lib.Dec.{ltb, eqb}
+use lib.Dec.{eqb}
 use lib.ListN.{length, getD, take, drop, replicate, length-append, length-drop, length-replicate, getD-replicate}
-use lib.Seq.{length-take-le, take-at, drop-at, drop-drop, getD-at, split-at, append-snoc, drop-append-add}
-use borrow.Author.Tests.{ltb-true, lt-ltb, eqb-true, eqb-false, eq-eqb, ne-eqb}
-use Rattle.laws.specs.Bool.{if_then_else_, split, _and_, both, join}
+use lib.Seq.{length-take-le, take-at, drop-at, drop-drop, getD-at, split-at, drop-append-add}
+use borrow.Author.Tests.{ltb-true, lt-ltb, eqb-true, eq-eqb}
+use Rattle.laws.specs.Bool.{if_then_else_, split, both, join}
 use Rattle.laws.specs.Every.{every, every-append}
-use Rattle.codec.specs.Read.{Read, got, bad, onward}
+use Rattle.codec.specs.Read.{Read, got, onward}
 use Rattle.codec.specs.Leb.{leb128}
 use Rattle.codec.specs.Numbers.{bytes-of, number-below, numbers-at, all-below}
-use Rattle.codec.specs.Stages.{Shape, numbers, beside, all-zero}
+use Rattle.codec.specs.Stages.{numbers, beside, all-zero}
 use Rattle.codec.specs.Slots.{slot, slots}
 use Rattle.codec.specs.Exact.{Bytes, Is-read, Exact, bytes-append, beside-exact}
 use Rattle.codec.specs.ReadLaws.{passed}
 use Rattle.codec.specs.LebLaws.{Number-read}
 use Rattle.codec.specs.NumbersLaws.{below-back, below-only, numbers-exact, numbers-long}
-use Rattle.codec.specs.PartLaws.{every-each, every-at}
+use Rattle.codec.specs.PartLaws.{every-at}
 
 -- A list of zeros.
 pub zeros : (ns : List ℕ) → all-zero ns ≡ true → replicate (length ns) 0 ≡ ns

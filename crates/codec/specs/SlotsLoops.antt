@@ -1,23 +1,23 @@
 -- Loops over slots.
 use mathlib.Core.Path.{_≡_, refl, sym, ap, _∙_}
-use mathlib.Core.Bool.{Bool, true, false, not}
+use mathlib.Core.Bool.{true}
 use mathlib.Core.List.{List, [], _∷_, _++_, flatMap, append-assoc, append-nil}
-use Prim.Native.Nat.{ℕ, zero, suc, _+_, _*_, _-_, _^_, _≤_, _<_}
+use Prim.Native.Nat.{ℕ, suc, _+_, _*_, _-_, _≤_, _<_}
 use native.Mathlib.Nat.{mul-suc}
 use native.Mathlib.Omega.{arith}
-use lib.Dec.{ltb, eqb}
-use lib.ListN.{length, getD, take, drop, replicate, set, length-set, length-append, length-take}
-use borrow.Author.Tests.{ltb-true, lt-ltb, eqb-true, eqb-false, eq-eqb, ne-eqb}
-use Rattle.laws.specs.Bool.{if_then_else_, split, _and_, both, join}
+use lib.Dec.{eqb}
+use lib.ListN.{length, getD, take, drop, replicate, set, length-set, length-append}
+use borrow.Author.Tests.{lt-ltb, eqb-true, eqb-false, eq-eqb, ne-eqb}
+use Rattle.laws.specs.Bool.{if_then_else_, split, _and_}
 use Rattle.laws.specs.Every.{every}
-use Rattle.laws.specs.Splice.{splice, splice-none, splice-one, splice-more, length-splice}
+use Rattle.laws.specs.Splice.{splice, splice-one, splice-more, length-splice}
 use Rattle.codec.specs.Read.{Read, got, bad, onward, tested}
-use Rattle.codec.specs.Leb.{groups, leb128, parse, number-at}
-use Rattle.codec.specs.Numbers.{bytes-of, number-below, numbers-at, all-below, part}
-use Rattle.codec.specs.Stages.{Shape, numbers, beside, all-zero}
+use Rattle.codec.specs.Leb.{groups, leb128, number-at}
+use Rattle.codec.specs.Numbers.{bytes-of, number-below, numbers-at, part}
+use Rattle.codec.specs.Stages.{numbers, beside, all-zero}
 use Rattle.codec.specs.Slots.{slot, slots}
 use Rattle.codec.specs.Stored.{place-of, Stored, Zero-from}
-use Rattle.codec.specs.Exact.{not-bad, bytes-append}
+use Rattle.codec.specs.Exact.{bytes-append}
 use Rattle.codec.specs.ReadLaws.{passed}
 use Rattle.codec.specs.LebLaws.{leb-few}
 use Rattle.codec.specs.NumbersLaws.{numbers-long}
@@ -104,18 +104,6 @@ module _ (top before after : ℕ) {k end i n : ℕ} (xs : List ℕ) (inv : Ahead
   unfolding slots numbers every _and_
   no-tidy = rw (none-more top before after h, last-part)
 
--- A number that is read is of 64 bits.
-pub number-small : (bytes : List ℕ) (at : ℕ) {n next : ℕ} → number-at bytes at ≡ got n next → n < 2 ^ 64
-unfolding number-at if_then_else_
-number-small bytes at {n} {next} e =
-    let a = passed (parse 10 (drop at bytes)) _ e in
-    split (ltb (a .value) (2 ^ 64))
-    (λ t.
-    let f = rw t at (a .two) in
-    let x : a .value ≡ n = cc in
-    rw (← x) (ltb-true (a .value) (2 ^ 64) t))
-    (λ t. not-bad (rw t at (a .two)))
-
 -- The place doesn't hang on what is made of the numbers.
 same-place : (r : Read (List ℕ)) (f : List ℕ → List ℕ) → place-of (onward r (λ ns p. got (f ns) p)) ≡ place-of r
 unfolding onward place-of
@@ -128,7 +116,7 @@ module _ (top before after : ℕ) (bytes : List ℕ) (at : ℕ) where
   unfolding slot tested onward
   no-lead e = rw e
 
-  module _ (lead p : ℕ) (there : number-at bytes at ≡ got lead p) (low : lead < top) where
+  module _ {lead p : ℕ} (there : number-at bytes at ≡ got lead p) (low : lead < top) where
     lead-read : number-below top bytes at ≡ got lead p
     unfolding tested onward if_then_else_
     lead-read = rw (there, lt-ltb lead top low)
@@ -157,7 +145,7 @@ module _ (top before after : ℕ) (bytes : List ℕ) (at : ℕ) where
       unfolding onward
       used-bad e = used-read ∙ rw e
 
-      module _ (xs : List ℕ) (q : ℕ) (front : numbers-at top before bytes p ≡ got xs q) where
+      module _ {xs : List ℕ} {q : ℕ} (front : numbers-at top before bytes p ≡ got xs q) where
         used-rest : slot top before after .read bytes at ≡ onward (numbers-at top after bytes q) (λ ys r. got (xs ++ (lead ∷ ys)) r)
         unfolding onward
         used-rest = used-read ∙ rw front

@@ -1,5 +1,5 @@
-use mathlib.Core.Path.{_≡_, refl, sym, ap, _∙_}
-use Prim.Native.Nat.{ℕ, suc, _+_, _*_, _-_, _^_}
+use mathlib.Core.Path.{_≡_, _∙_}
+use Prim.Native.Nat.{suc, _+_, _*_, _-_, _^_}
 use native.Mathlib.Omega.{arith}
 use borrow.Author.Needs.{needs}
 use Rattle.codec.specs.Slots.{slots}
@@ -9,9 +9,6 @@ use Rattle.codec.specs.Loops.{Reading, reading-start, reading-long, read
 use Rattle.codec.specs.SlotsLoops.{Ahead, ahead-start, ahead-room, ahead-more, slots-read, no-read}
 use Rattle.codec.proofs.slots.read_slots.Statement.{statement}
 use Rattle.codec.proofs.slots.read_slots.Tie as tie
-use Rattle.codec.proofs.slots.read_slots.Reads as reads
-use Rattle.codec.proofs.slots.read_slots.Lts as lts
-use Rattle.codec.proofs.slots.read_slot.Reads as read-slot-reads
 
 abbrev Inv-loop : tie.InvT-loop
 Inv-loop bytes start out₀ first before after k at₀ i₀ n₀ out at i n =
@@ -20,7 +17,6 @@ Inv-loop bytes start out₀ first before after k at₀ i₀ n₀ out at i n =
 abbrev μ-loop : tie.MeasureT-loop
 μ-loop bytes start out₀ first before after k at₀ i₀ n₀ out at i n = k - n
 
--- src/slots.rt:67:5
 loop-holds : tie.Need-loop-holds Inv-loop μ-loop
 loop-holds c =
     let s = c .before .before in
@@ -28,7 +24,6 @@ loop-holds c =
     let e : a .k - 0 ≡ a .k = omega arith in
     (reading-start (rw e) (omega (arith, s .pre .0)), ahead-start (a .before) (a .after) (a .k) (a .first))
 
--- src/slots.rt:68:13
 read-slot-requires : tie.Need-read-slot-requires Inv-loop μ-loop
 read-slot-requires c κs =
     let c1 = c .before in
@@ -37,21 +32,11 @@ read-slot-requires c κs =
     let r = ahead-room (i .1) (c1 .loop-test .taken) in
     (omega (arith, r, reading-long (i .0), s .pre .0), reading-zero (i .0) (s .pre .1))
 
--- src/slots.rt:69:23
-enum-known-place : tie.Need-enum-known-place Inv-loop μ-loop
-enum-known-place c = search needs
-
--- src/slots.rt:70:13
-enum-told : tie.Need-enum-told Inv-loop μ-loop
-enum-told c = search needs
-
--- src/slots.rt:70:13
 same-length : tie.Need-same-length Inv-loop μ-loop
 same-length c =
     let i = c .before .before .before .before .before .before .before .loop .inv in
     c .before .before .before .before .read-slot .ensures .1 .long ∙ reading-long (i .0)
 
--- src/slots.rt:70:13
 returns : tie.Need-returns Inv-loop μ-loop
 returns c =
     let c1 = c .before .before .before .before .before .before in
@@ -61,36 +46,24 @@ returns c =
     let b = reading-bad (i .0) (slots-read (2 ^ 64) (a .before) (a .after) (c1 .loop-test .taken) (a .bytes .now) (c1 .before .loop .at)) (at-bad (e .0) (c .enum-told .given .1)) in
     (bad-place b, bad-stored b (e .1 .long ∙ reading-long (i .0)))
 
--- src/slots.rt:73:14
 add-i : tie.Need-add-i Inv-loop μ-loop
 add-i c =
     let c1 = c .before .before .before .before .before .before .before in
     let r = ahead-room (c1 .before .loop .inv .1) (c1 .loop-test .taken) in
     omega (arith, r, c1 .before .before .before .before .pre .0, c1 .before .before .before .before .good)
 
--- src/slots.rt:73:14
 add-i-2 : tie.Need-add-i-2 Inv-loop μ-loop
 add-i-2 c =
     let c1 = c .before .before .before .before .before .before .before in
     let r = ahead-room (c1 .before .loop .inv .1) (c1 .loop-test .taken) in
     omega (arith, r, c1 .before .before .before .before .pre .0, c1 .before .before .before .before .good)
 
--- src/slots.rt:73:9
 add-i-3 : tie.Need-add-i-3 Inv-loop μ-loop
 add-i-3 c =
     let c1 = c .before .before .before .before .before .before .before in
     let r = ahead-room (c1 .before .loop .inv .1) (c1 .loop-test .taken) in
     omega (arith, r, c1 .before .before .before .before .pre .0, c1 .before .before .before .before .good)
 
--- src/slots.rt:74:9
-add-n : tie.Need-add-n Inv-loop μ-loop
-add-n c = search needs
-
--- src/slots.rt:67:5
-loop-less : tie.Need-loop-less Inv-loop μ-loop
-loop-less c = search needs
-
--- src/slots.rt:67:5
 loop-again : tie.Need-loop-again Inv-loop μ-loop
 loop-again c =
     let c1 = c .before .before .before .before .before .before .before in
@@ -104,11 +77,9 @@ loop-again c =
     let r = ahead-room (i .1) (c1 .loop-test .taken) in
     (reading-more (i .0) t (g .value) _ (g .is) (e .1 .is (g .value) _ (g .is)) (omega (arith, n)) (omega (arith, r, s .pre .0)), ahead-more (i .1) (c1 .loop-test .taken))
 
--- src/slots.rt:51:1
 same-length-2 : tie.Need-same-length-2 Inv-loop μ-loop
 same-length-2 c = reading-long (c .before .loop .inv .0)
 
--- src/slots.rt:51:1
 returns-2 : tie.Need-returns-2 Inv-loop μ-loop
 returns-2 c =
     let i = c .before .loop in
@@ -124,15 +95,15 @@ read-slots-spec =
     μ-loop
     loop-holds
     read-slot-requires
-    enum-known-place
-    enum-told
+    (λ c. search needs)
+    (λ c. search needs)
     same-length
     returns
     add-i
     add-i-2
     add-i-3
-    add-n
-    loop-less
+    (λ c. search needs)
+    (λ c. search needs)
     loop-again
     same-length-2
     returns-2)

@@ -1,17 +1,13 @@
-use mathlib.Core.Path.{_≡_, refl, sym, ap, _∙_}
-use Prim.Native.Nat.{ℕ, suc, _+_, _*_, _-_, _^_}
+use mathlib.Core.Path.{_≡_}
+use Prim.Native.Nat.{suc, _+_, _*_, _-_, _^_}
 use native.Mathlib.Omega.{arith}
 use borrow.Author.Needs.{needs}
-use lib.ListN.{length, getD}
 use Rattle.codec.specs.Numbers.{bytes-of, part}
 use Rattle.codec.specs.Slots.{slots}
 use Rattle.codec.specs.Loops.{Counting, counting-start, counting-more, counting-end}
 use Rattle.codec.specs.SlotsLoops.{Ahead, ahead-start, ahead-room, ahead-more, slots-fields, no-fields, slot-few}
 use Rattle.codec.proofs.slots.slots_size.Statement.{statement}
 use Rattle.codec.proofs.slots.slots_size.Tie as tie
-use Rattle.codec.proofs.slots.slots_size.Reads as reads
-use Rattle.codec.proofs.slots.slots_size.Lts as lts
-use Rattle.codec.proofs.slots.slot_size.Reads as slot-size-reads
 
 abbrev Inv-loop : tie.InvT-loop
 Inv-loop xs first before after k size₀ i₀ n₀ size i n =
@@ -21,21 +17,18 @@ Inv-loop xs first before after k size₀ i₀ n₀ size i n =
 abbrev μ-loop : tie.MeasureT-loop
 μ-loop xs first before after k size₀ i₀ n₀ size i n = k - n
 
--- src/slots.rt:128:5
 loop-holds : tie.Need-loop-holds Inv-loop μ-loop
 loop-holds c =
     let a = c .before .args in
     let e : a .k - 0 ≡ a .k = omega arith in
     (counting-start (rw e), ahead-start (a .before) (a .after) (a .k) (a .first))
 
--- src/slots.rt:129:17
 slot-size-requires : tie.Need-slot-size-requires Inv-loop μ-loop
 slot-size-requires c κs =
     let s = c .before .before .before in
     let r = ahead-room (c .before .loop .inv .1) (c .loop-test .taken) in
     (omega (arith, r, s .pre), s .pre .1)
 
--- src/slots.rt:129:9
 add-size : tie.Need-add-size Inv-loop μ-loop
 add-size c =
     let c1 = c .before in
@@ -46,36 +39,24 @@ add-size c =
     let f = slot-few (2 ^ 64) (a .before) (a .after) (a .xs .now) (i .i) (omega (arith, r, s .pre)) in
     omega (arith, r, f, i .inv .0 .few, s .pre, c .slot-size .ensures)
 
--- src/slots.rt:130:14
 add-i : tie.Need-add-i Inv-loop μ-loop
 add-i c =
     let c1 = c .before in
     let r = ahead-room (c1 .before .loop .inv .1) (c1 .loop-test .taken) in
     omega (arith, r, c1 .before .before .before .pre)
 
--- src/slots.rt:130:14
 add-i-2 : tie.Need-add-i-2 Inv-loop μ-loop
 add-i-2 c =
     let c1 = c .before in
     let r = ahead-room (c1 .before .loop .inv .1) (c1 .loop-test .taken) in
     omega (arith, r, c1 .before .before .before .pre)
 
--- src/slots.rt:130:9
 add-i-3 : tie.Need-add-i-3 Inv-loop μ-loop
 add-i-3 c =
     let c1 = c .before in
     let r = ahead-room (c1 .before .loop .inv .1) (c1 .loop-test .taken) in
     omega (arith, r, c1 .before .before .before .pre)
 
--- src/slots.rt:131:9
-add-n : tie.Need-add-n Inv-loop μ-loop
-add-n c = search needs
-
--- src/slots.rt:128:5
-loop-less : tie.Need-loop-less Inv-loop μ-loop
-loop-less c = search needs
-
--- src/slots.rt:128:5
 loop-again : tie.Need-loop-again Inv-loop μ-loop
 loop-again c =
     let c1 = c .before in
@@ -87,7 +68,6 @@ loop-again c =
     let t = slots-fields (2 ^ 64) (a .before) (a .after) (a .xs .now) (i .inv .1) (s .pre .0) (c1 .loop-test .taken) in
     (counting-more (i .inv .0) _ t (c .slot-size .ensures) (omega (arith, f)), ahead-more (i .inv .1) (c1 .loop-test .taken))
 
--- src/slots.rt:121:1
 returns : tie.Need-returns Inv-loop μ-loop
 returns c =
     let i = c .before .loop .inv in
@@ -106,7 +86,7 @@ slots-size-spec =
     add-i
     add-i-2
     add-i-3
-    add-n
-    loop-less
+    (λ c. search needs)
+    (λ c. search needs)
     loop-again
     returns)

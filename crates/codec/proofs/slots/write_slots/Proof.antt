@@ -1,17 +1,13 @@
-use mathlib.Core.Path.{_≡_, refl, sym, ap, _∙_}
-use Prim.Native.Nat.{ℕ, suc, _+_, _*_, _-_, _^_}
+use mathlib.Core.Path.{_≡_}
+use Prim.Native.Nat.{suc, _+_, _*_, _-_, _^_}
 use native.Mathlib.Omega.{arith}
 use borrow.Author.Needs.{needs}
-use lib.ListN.{length, getD}
 use Rattle.codec.specs.Numbers.{bytes-of, part}
 use Rattle.codec.specs.Slots.{slots}
 use Rattle.codec.specs.Loops.{Writing, writing-start, writing-long, writing-room, writing-more, writing-place, writing-end}
 use Rattle.codec.specs.SlotsLoops.{Ahead, ahead-start, ahead-room, ahead-more, slots-fields, no-fields}
 use Rattle.codec.proofs.slots.write_slots.Statement.{statement}
 use Rattle.codec.proofs.slots.write_slots.Tie as tie
-use Rattle.codec.proofs.slots.write_slots.Reads as reads
-use Rattle.codec.proofs.slots.write_slots.Lts as lts
-use Rattle.codec.proofs.slots.write_slot.Reads as write-slot-reads
 
 abbrev Inv-loop : tie.InvT-loop
 Inv-loop out₀ at xs first before after k place₀ i₀ n₀ out place i n =
@@ -21,7 +17,6 @@ Inv-loop out₀ at xs first before after k place₀ i₀ n₀ out place i n =
 abbrev μ-loop : tie.MeasureT-loop
 μ-loop out₀ at xs first before after k place₀ i₀ n₀ out place i n = k - n
 
--- src/slots.rt:177:5
 loop-holds : tie.Need-loop-holds Inv-loop μ-loop
 loop-holds c =
     let s = c .before .before in
@@ -29,7 +24,6 @@ loop-holds c =
     let e : a .k - 0 ≡ a .k = omega arith in
     (writing-start (rw e) (s .pre .1), ahead-start (a .before) (a .after) (a .k) (a .first))
 
--- src/slots.rt:178:9
 write-slot-requires : tie.Need-write-slot-requires Inv-loop μ-loop
 write-slot-requires c κs =
     let c1 = c .before in
@@ -39,36 +33,24 @@ write-slot-requires c κs =
     let r = ahead-room (i .1) (c1 .loop-test .taken) in
     (omega (arith, r, s .pre .0), writing-room (i .0) (slots-fields (2 ^ 64) (a .before) (a .after) (a .xs .now) (i .1) (s .pre .0) (c1 .loop-test .taken)))
 
--- src/slots.rt:179:14
 add-i : tie.Need-add-i Inv-loop μ-loop
 add-i c =
     let c1 = c .before .before .before .before in
     let r = ahead-room (c1 .before .loop .inv .1) (c1 .loop-test .taken) in
     omega (arith, r, c1 .before .before .before .before .pre .0, c1 .before .before .before .before .good)
 
--- src/slots.rt:179:14
 add-i-2 : tie.Need-add-i-2 Inv-loop μ-loop
 add-i-2 c =
     let c1 = c .before .before .before .before in
     let r = ahead-room (c1 .before .loop .inv .1) (c1 .loop-test .taken) in
     omega (arith, r, c1 .before .before .before .before .pre .0, c1 .before .before .before .before .good)
 
--- src/slots.rt:179:9
 add-i-3 : tie.Need-add-i-3 Inv-loop μ-loop
 add-i-3 c =
     let c1 = c .before .before .before .before in
     let r = ahead-room (c1 .before .loop .inv .1) (c1 .loop-test .taken) in
     omega (arith, r, c1 .before .before .before .before .pre .0, c1 .before .before .before .before .good)
 
--- src/slots.rt:180:9
-add-n : tie.Need-add-n Inv-loop μ-loop
-add-n c = search needs
-
--- src/slots.rt:177:5
-loop-less : tie.Need-loop-less Inv-loop μ-loop
-loop-less c = search needs
-
--- src/slots.rt:177:5
 loop-again : tie.Need-loop-again Inv-loop μ-loop
 loop-again c =
     let c1 = c .before .before .before .before in
@@ -78,11 +60,9 @@ loop-again c =
     let t = slots-fields (2 ^ 64) (a .before) (a .after) (a .xs .now) (i .1) (s .pre .0) (c1 .loop-test .taken) in
     (writing-more (i .0) t (c .before .before .write-slot .ensures .0) (c .before .before .write-slot .ensures .1), ahead-more (i .1) (c1 .loop-test .taken))
 
--- src/slots.rt:160:1
 same-length : tie.Need-same-length Inv-loop μ-loop
 same-length c = writing-long (c .before .loop .inv .0)
 
--- src/slots.rt:160:1
 returns : tie.Need-returns Inv-loop μ-loop
 returns c =
     let i = c .before .loop .inv in
@@ -101,8 +81,8 @@ write-slots-spec =
     add-i
     add-i-2
     add-i-3
-    add-n
-    loop-less
+    (λ c. search needs)
+    (λ c. search needs)
     loop-again
     same-length
     returns)
