@@ -16,6 +16,9 @@ pub record Read-first (left one : Read (List ℕ)) (more : ℕ → Read (List �
 pub record Bytes-first (left bytes more : List ℕ) : Type 0 where
   pub is : left ≡ bytes ++ more
 
+pub only-bytes : (bytes : List ℕ) → Bytes-first bytes bytes []
+only-bytes bytes = record { is = sym (append-nil bytes) }
+
 -- READING into a list that was list₀. What was read stands in it from first up to i.
 pub record Reading (left whole : Read (List ℕ)) (list₀ : List ℕ) (first i : ℕ) (list : List ℕ) : Type 0 where
   pub seen : List ℕ

@@ -17,7 +17,7 @@ use Rattle.codec.specs.Numbers.{bytes-of, number-below, numbers-at, all-
 use Rattle.codec.specs.Stages.{numbers, beside, all-zero}
 use Rattle.codec.specs.Slots.{slot, slots}
 use Rattle.codec.specs.Exact.{Bytes, Is-read, Exact, bytes-append, beside-exact}
-use Rattle.codec.specs.ReadLaws.{passed}
+use Rattle.codec.specs.ReadLaws.{both-read}
 use Rattle.codec.specs.LebLaws.{Number-read}
 use Rattle.codec.specs.NumbersLaws.{below-back, below-only, numbers-exact, numbers-long}
 use Rattle.codec.specs.PartLaws.{every-at}
@@ -166,12 +166,12 @@ module _ (top before after : ℕ) (small : top ≤ 2 ^ 64) where
     only : slot top before after .read bytes at ≡ got ns next → Is-read (slot top before after) bytes at ns next
     unfolding slot if_then_else_ numbers
     only e =
-        let a = passed (number-below top bytes at) (behind-lead bytes) e in
+        let a = both-read (number-below top bytes at) (behind-lead bytes) e in
         let i = below-only top bytes at (a .value) (a .place) good (a .one) in
         split (eqb (a .value) 0) (λ z. only-unused (a .value) (a .place) i z (rw z at (a .two)))
         (λ z.
-        let b = passed (numbers-at top before bytes (a .place)) _ (rw z at (a .two)) in
-        let c = passed (numbers-at top after bytes (b .place)) _ (b .two) in
+        let b = both-read (numbers-at top before bytes (a .place)) _ (rw z at (a .two)) in
+        let c = both-read (numbers-at top after bytes (b .place)) _ (b .two) in
         let j = numbers-exact top before small .only bytes (b .value) (a .place) (b .place) good (b .one) in
         let k = numbers-exact top after small .only bytes (c .value) (b .place) (c .place) good (c .one) in
         only-used (a .value) (a .place) i z (b .value) (b .place) j (c .value) (c .place) k (c .two))
@@ -184,7 +184,7 @@ module _ (top before after : ℕ) (bytes ns : List ℕ) (at next : ℕ) where
   pub slot-long : slot top before after .read bytes at ≡ got ns next → length ns ≡ before + suc after
   unfolding slot if_then_else_
   slot-long e =
-      let a = passed (number-below top bytes at) _ e in
+      let a = both-read (number-below top bytes at) _ e in
       split (eqb (a .value) 0)
       (λ z.
       let f = rw z at (a .two) in
@@ -192,8 +192,8 @@ module _ (top before after : ℕ) (bytes ns : List ℕ) (at next : ℕ) where
       let x : zs ≡ ns = cc in
       rw (← x) (length-replicate (before + suc after) 0))
       (λ z.
-      let b = passed (numbers-at top before bytes (a .place)) _ (rw z at (a .two)) in
-      let c = passed (numbers-at top after bytes (b .place)) _ (b .two) in
+      let b = both-read (numbers-at top before bytes (a .place)) _ (rw z at (a .two)) in
+      let c = both-read (numbers-at top after bytes (b .place)) _ (b .two) in
       let f = c .two in
       let x : b .value ++ (a .value ∷ c .value) ≡ ns = cc in
       let n₁ = numbers-long top bytes before (a .place) (b .value) (b .place) (b .one) in

@@ -18,7 +18,7 @@ use Rattle.codec.specs.Stages.{numbers, beside, all-zero}
 use Rattle.codec.specs.Slots.{slot, slots}
 use Rattle.codec.specs.Stored.{place-of, Stored, Zero-from}
 use Rattle.codec.specs.Exact.{bytes-append}
-use Rattle.codec.specs.ReadLaws.{passed}
+use Rattle.codec.specs.ReadLaws.{both-read}
 use Rattle.codec.specs.LebLaws.{leb-few}
 use Rattle.codec.specs.NumbersLaws.{numbers-long}
 use Rattle.codec.specs.NumbersLoops.{part-none}
@@ -163,7 +163,7 @@ module _ (top before after : ℕ) (bytes : List ℕ) (at : ℕ) where
             let two : l₂ ≡ splice list first (xs ++ (lead ∷ [])) = one ∙ splice-more list first xs (lead ∷ []) (first + before) (omega arith) (omega arith) in
             record {
               is = λ ns next e.
-                  let c = passed (numbers-at top after bytes q) (λ ys r. got (xs ++ (lead ∷ ys)) r) (sym used-rest ∙ e) in
+                  let c = both-read (numbers-at top after bytes q) (λ ys r. got (xs ++ (lead ∷ ys)) r) (sym used-rest ∙ e) in
                   let f = c .two in
                   let x : xs ++ (lead ∷ c .value) ≡ ns = cc in
                   let k = numbers-long top bytes after q (c .value) (c .place) (c .one) in
@@ -216,13 +216,9 @@ module _ (top before after : ℕ) (xs : List ℕ) (first : ℕ) (room : first + 
   unfolding if_then_else_
   unused-none z = rw (eq-eqb lead 0 z)
 
-  module _ (used : lead ≡ 0 → ⊥) where
-    pub front-first : Bytes-first behind (bytes-of front) (bytes-of back)
-    unfolding if_then_else_
-    front-first = record { is = rw (ne-eqb lead 0 used) }
-
-  pub back-first : Bytes-first (bytes-of back) (bytes-of back) []
-  back-first = record { is = sym (append-nil (bytes-of back)) }
+  pub front-first : (lead ≡ 0 → ⊥) → Bytes-first behind (bytes-of front) (bytes-of back)
+  unfolding if_then_else_
+  front-first used = record { is = rw (ne-eqb lead 0 used) }
 
   -- How many they are.
   pub unused-size : lead ≡ 0 → 1 ≡ length (bytes-of (slot top before after .fields here))

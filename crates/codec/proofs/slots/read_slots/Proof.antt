@@ -26,10 +26,10 @@ loop-holds c =
 
 read-slot-requires : tie.Need-read-slot-requires Inv-loop μ-loop
 read-slot-requires c κs =
-    let c1 = c .before in
-    let i = c1 .before .loop .inv in
-    let s = c1 .before .before .before .before in
-    let r = ahead-room (i .1) (c1 .loop-test .taken) in
+    let taken = c .before in
+    let i = taken .before .loop .inv in
+    let s = taken .before .before .before .before in
+    let r = ahead-room (i .1) (taken .loop-test .taken) in
     (omega (arith, r, reading-long (i .0), s .pre .0), reading-zero (i .0) (s .pre .1))
 
 same-length : tie.Need-same-length Inv-loop μ-loop
@@ -39,43 +39,43 @@ same-length c =
 
 returns : tie.Need-returns Inv-loop μ-loop
 returns c =
-    let c1 = c .before .before .before .before .before .before in
-    let i = c1 .before .loop .inv in
-    let a = c1 .before .before .before .before .args in
+    let taken = c .before .before .before .before .before .before in
+    let i = taken .before .loop .inv in
+    let a = taken .before .before .before .before .args in
     let e = c .before .before .before .before .read-slot .ensures in
-    let b = reading-bad (i .0) (slots-read (2 ^ 64) (a .before) (a .after) (c1 .loop-test .taken) (a .bytes .now) (c1 .before .loop .at)) (at-bad (e .0) (c .enum-told .given .1)) in
+    let b = reading-bad (i .0) (slots-read (2 ^ 64) (a .before) (a .after) (taken .loop-test .taken) (a .bytes .now) (taken .before .loop .at)) (at-bad (e .0) (c .enum-told .given .1)) in
     (bad-place b, bad-stored b (e .1 .long ∙ reading-long (i .0)))
 
 add-i : tie.Need-add-i Inv-loop μ-loop
 add-i c =
-    let c1 = c .before .before .before .before .before .before .before in
-    let r = ahead-room (c1 .before .loop .inv .1) (c1 .loop-test .taken) in
-    omega (arith, r, c1 .before .before .before .before .pre .0, c1 .before .before .before .before .good)
+    let taken = c .before .before .before .before .before .before .before in
+    let r = ahead-room (taken .before .loop .inv .1) (taken .loop-test .taken) in
+    omega (arith, r, taken .before .before .before .before .pre .0, taken .before .before .before .before .good)
 
 add-i-2 : tie.Need-add-i-2 Inv-loop μ-loop
 add-i-2 c =
-    let c1 = c .before .before .before .before .before .before .before in
-    let r = ahead-room (c1 .before .loop .inv .1) (c1 .loop-test .taken) in
-    omega (arith, r, c1 .before .before .before .before .pre .0, c1 .before .before .before .before .good)
+    let taken = c .before .before .before .before .before .before .before in
+    let r = ahead-room (taken .before .loop .inv .1) (taken .loop-test .taken) in
+    omega (arith, r, taken .before .before .before .before .pre .0, taken .before .before .before .before .good)
 
 add-i-3 : tie.Need-add-i-3 Inv-loop μ-loop
 add-i-3 c =
-    let c1 = c .before .before .before .before .before .before .before in
-    let r = ahead-room (c1 .before .loop .inv .1) (c1 .loop-test .taken) in
-    omega (arith, r, c1 .before .before .before .before .pre .0, c1 .before .before .before .before .good)
+    let taken = c .before .before .before .before .before .before .before in
+    let r = ahead-room (taken .before .loop .inv .1) (taken .loop-test .taken) in
+    omega (arith, r, taken .before .before .before .before .pre .0, taken .before .before .before .before .good)
 
 loop-again : tie.Need-loop-again Inv-loop μ-loop
 loop-again c =
-    let c1 = c .before .before .before .before .before .before .before in
-    let i = c1 .before .loop .inv in
-    let s = c1 .before .before .before .before in
+    let taken = c .before .before .before .before .before .before .before in
+    let i = taken .before .loop .inv in
+    let s = taken .before .before .before .before in
     let a = s .args in
     let e = c .before .before .before .before .before .read-slot .ensures in
     let g = at-got (e .0) (c .before .place .given .1) in
-    let t = slots-read (2 ^ 64) (a .before) (a .after) (c1 .loop-test .taken) (a .bytes .now) (c1 .before .loop .at) in
-    let n = slot-long (2 ^ 64) (a .before) (a .after) (a .bytes .now) (g .value) (c1 .before .loop .at) _ (g .is) in
-    let r = ahead-room (i .1) (c1 .loop-test .taken) in
-    (reading-more (i .0) t (g .value) _ (g .is) (e .1 .is (g .value) _ (g .is)) (omega (arith, n)) (omega (arith, r, s .pre .0)), ahead-more (i .1) (c1 .loop-test .taken))
+    let t = slots-read (2 ^ 64) (a .before) (a .after) (taken .loop-test .taken) (a .bytes .now) (taken .before .loop .at) in
+    let n = slot-long (2 ^ 64) (a .before) (a .after) (a .bytes .now) (g .value) (taken .before .loop .at) _ (g .is) in
+    let r = ahead-room (i .1) (taken .loop-test .taken) in
+    (reading-more (i .0) t (g .value) _ (g .is) (e .1 .is (g .value) _ (g .is)) (omega (arith, n)) (omega (arith, r, s .pre .0)), ahead-more (i .1) (taken .loop-test .taken))
 
 same-length-2 : tie.Need-same-length-2 Inv-loop μ-loop
 same-length-2 c = reading-long (c .before .loop .inv .0)

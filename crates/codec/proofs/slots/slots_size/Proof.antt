@@ -31,42 +31,42 @@ slot-size-requires c κs =
 
 add-size : tie.Need-add-size Inv-loop μ-loop
 add-size c =
-    let c1 = c .before in
-    let i = c1 .before .loop in
-    let s = c1 .before .before .before in
+    let taken = c .before in
+    let i = taken .before .loop in
+    let s = taken .before .before .before in
     let a = s .args in
-    let r = ahead-room (i .inv .1) (c1 .loop-test .taken) in
+    let r = ahead-room (i .inv .1) (taken .loop-test .taken) in
     let f = slot-few (2 ^ 64) (a .before) (a .after) (a .xs .now) (i .i) (omega (arith, r, s .pre)) in
     omega (arith, r, f, i .inv .0 .few, s .pre, c .slot-size .ensures)
 
 add-i : tie.Need-add-i Inv-loop μ-loop
 add-i c =
-    let c1 = c .before in
-    let r = ahead-room (c1 .before .loop .inv .1) (c1 .loop-test .taken) in
-    omega (arith, r, c1 .before .before .before .pre)
+    let taken = c .before in
+    let r = ahead-room (taken .before .loop .inv .1) (taken .loop-test .taken) in
+    omega (arith, r, taken .before .before .before .pre)
 
 add-i-2 : tie.Need-add-i-2 Inv-loop μ-loop
 add-i-2 c =
-    let c1 = c .before in
-    let r = ahead-room (c1 .before .loop .inv .1) (c1 .loop-test .taken) in
-    omega (arith, r, c1 .before .before .before .pre)
+    let taken = c .before in
+    let r = ahead-room (taken .before .loop .inv .1) (taken .loop-test .taken) in
+    omega (arith, r, taken .before .before .before .pre)
 
 add-i-3 : tie.Need-add-i-3 Inv-loop μ-loop
 add-i-3 c =
-    let c1 = c .before in
-    let r = ahead-room (c1 .before .loop .inv .1) (c1 .loop-test .taken) in
-    omega (arith, r, c1 .before .before .before .pre)
+    let taken = c .before in
+    let r = ahead-room (taken .before .loop .inv .1) (taken .loop-test .taken) in
+    omega (arith, r, taken .before .before .before .pre)
 
 loop-again : tie.Need-loop-again Inv-loop μ-loop
 loop-again c =
-    let c1 = c .before in
-    let i = c1 .before .loop in
-    let s = c1 .before .before .before in
+    let taken = c .before in
+    let i = taken .before .loop in
+    let s = taken .before .before .before in
     let a = s .args in
-    let r = ahead-room (i .inv .1) (c1 .loop-test .taken) in
+    let r = ahead-room (i .inv .1) (taken .loop-test .taken) in
     let f = slot-few (2 ^ 64) (a .before) (a .after) (a .xs .now) (i .i) (omega (arith, r, s .pre)) in
-    let t = slots-fields (2 ^ 64) (a .before) (a .after) (a .xs .now) (i .inv .1) (s .pre .0) (c1 .loop-test .taken) in
-    (counting-more (i .inv .0) _ t (c .slot-size .ensures) (omega (arith, f)), ahead-more (i .inv .1) (c1 .loop-test .taken))
+    let t = slots-fields (2 ^ 64) (a .before) (a .after) (a .xs .now) (i .inv .1) (s .pre .0) (taken .loop-test .taken) in
+    (counting-more (i .inv .0) _ t (c .slot-size .ensures) (omega (arith, f)), ahead-more (i .inv .1) (taken .loop-test .taken))
 
 returns : tie.Need-returns Inv-loop μ-loop
 returns c =

@@ -30,38 +30,38 @@ slot-tidy-requires c κs =
 
 returns : tie.Need-returns Inv-loop μ-loop
 returns c =
-    let c1 = c .before .before in
-    let i = c1 .before .loop .inv in
-    let s = c1 .before .before .before in
+    let taken = c .before .before in
+    let i = taken .before .loop .inv in
+    let s = taken .before .before .before in
     let a = s .args in
-    stopped (c .before .slot-tidy .ensures) (c .if1 .taken) _ ∙ sym (slots-tidy (2 ^ 64) (a .before) (a .after) (a .xs .now) (i .1) (s .pre) (c1 .loop-test .taken)) ∙ i .0
+    stopped (c .before .slot-tidy .ensures) (c .if1 .taken) _ ∙ sym (slots-tidy (2 ^ 64) (a .before) (a .after) (a .xs .now) (i .1) (s .pre) (taken .loop-test .taken)) ∙ i .0
 
 add-i : tie.Need-add-i Inv-loop μ-loop
 add-i c =
-    let c1 = c .before .before in
-    let r = ahead-room (c1 .before .loop .inv .1) (c1 .loop-test .taken) in
-    omega (arith, r, c1 .before .before .before .pre, c1 .before .before .before .good)
+    let taken = c .before .before in
+    let r = ahead-room (taken .before .loop .inv .1) (taken .loop-test .taken) in
+    omega (arith, r, taken .before .before .before .pre, taken .before .before .before .good)
 
 add-i-2 : tie.Need-add-i-2 Inv-loop μ-loop
 add-i-2 c =
-    let c1 = c .before .before in
-    let r = ahead-room (c1 .before .loop .inv .1) (c1 .loop-test .taken) in
-    omega (arith, r, c1 .before .before .before .pre, c1 .before .before .before .good)
+    let taken = c .before .before in
+    let r = ahead-room (taken .before .loop .inv .1) (taken .loop-test .taken) in
+    omega (arith, r, taken .before .before .before .pre, taken .before .before .before .good)
 
 add-i-3 : tie.Need-add-i-3 Inv-loop μ-loop
 add-i-3 c =
-    let c1 = c .before .before in
-    let r = ahead-room (c1 .before .loop .inv .1) (c1 .loop-test .taken) in
-    omega (arith, r, c1 .before .before .before .pre, c1 .before .before .before .good)
+    let taken = c .before .before in
+    let r = ahead-room (taken .before .loop .inv .1) (taken .loop-test .taken) in
+    omega (arith, r, taken .before .before .before .pre, taken .before .before .before .good)
 
 loop-again : tie.Need-loop-again Inv-loop μ-loop
 loop-again c =
-    let c1 = c .before .before in
-    let i = c1 .before .loop .inv in
-    let s = c1 .before .before .before in
+    let taken = c .before .before in
+    let i = taken .before .loop .inv in
+    let s = taken .before .before .before in
     let a = s .args in
-    let t = slots-tidy (2 ^ 64) (a .before) (a .after) (a .xs .now) (i .1) (s .pre) (c1 .loop-test .taken) in
-    (sym (passed (c .before .slot-tidy .ensures) (c .if1 .left) _) ∙ sym t ∙ i .0, ahead-more (i .1) (c1 .loop-test .taken))
+    let t = slots-tidy (2 ^ 64) (a .before) (a .after) (a .xs .now) (i .1) (s .pre) (taken .loop-test .taken) in
+    (sym (passed (c .before .slot-tidy .ensures) (c .if1 .left) _) ∙ sym t ∙ i .0, ahead-more (i .1) (taken .loop-test .taken))
 
 returns-2 : tie.Need-returns-2 Inv-loop μ-loop
 returns-2 c =

@@ -26,39 +26,39 @@ loop-holds c =
 
 write-slot-requires : tie.Need-write-slot-requires Inv-loop μ-loop
 write-slot-requires c κs =
-    let c1 = c .before in
-    let i = c1 .before .loop .inv in
-    let s = c1 .before .before .before .before in
+    let taken = c .before in
+    let i = taken .before .loop .inv in
+    let s = taken .before .before .before .before in
     let a = s .args in
-    let r = ahead-room (i .1) (c1 .loop-test .taken) in
-    (omega (arith, r, s .pre .0), writing-room (i .0) (slots-fields (2 ^ 64) (a .before) (a .after) (a .xs .now) (i .1) (s .pre .0) (c1 .loop-test .taken)))
+    let r = ahead-room (i .1) (taken .loop-test .taken) in
+    (omega (arith, r, s .pre .0), writing-room (i .0) (slots-fields (2 ^ 64) (a .before) (a .after) (a .xs .now) (i .1) (s .pre .0) (taken .loop-test .taken)))
 
 add-i : tie.Need-add-i Inv-loop μ-loop
 add-i c =
-    let c1 = c .before .before .before .before in
-    let r = ahead-room (c1 .before .loop .inv .1) (c1 .loop-test .taken) in
-    omega (arith, r, c1 .before .before .before .before .pre .0, c1 .before .before .before .before .good)
+    let taken = c .before .before .before .before in
+    let r = ahead-room (taken .before .loop .inv .1) (taken .loop-test .taken) in
+    omega (arith, r, taken .before .before .before .before .pre .0, taken .before .before .before .before .good)
 
 add-i-2 : tie.Need-add-i-2 Inv-loop μ-loop
 add-i-2 c =
-    let c1 = c .before .before .before .before in
-    let r = ahead-room (c1 .before .loop .inv .1) (c1 .loop-test .taken) in
-    omega (arith, r, c1 .before .before .before .before .pre .0, c1 .before .before .before .before .good)
+    let taken = c .before .before .before .before in
+    let r = ahead-room (taken .before .loop .inv .1) (taken .loop-test .taken) in
+    omega (arith, r, taken .before .before .before .before .pre .0, taken .before .before .before .before .good)
 
 add-i-3 : tie.Need-add-i-3 Inv-loop μ-loop
 add-i-3 c =
-    let c1 = c .before .before .before .before in
-    let r = ahead-room (c1 .before .loop .inv .1) (c1 .loop-test .taken) in
-    omega (arith, r, c1 .before .before .before .before .pre .0, c1 .before .before .before .before .good)
+    let taken = c .before .before .before .before in
+    let r = ahead-room (taken .before .loop .inv .1) (taken .loop-test .taken) in
+    omega (arith, r, taken .before .before .before .before .pre .0, taken .before .before .before .before .good)
 
 loop-again : tie.Need-loop-again Inv-loop μ-loop
 loop-again c =
-    let c1 = c .before .before .before .before in
-    let i = c1 .before .loop .inv in
-    let s = c1 .before .before .before .before in
+    let taken = c .before .before .before .before in
+    let i = taken .before .loop .inv in
+    let s = taken .before .before .before .before in
     let a = s .args in
-    let t = slots-fields (2 ^ 64) (a .before) (a .after) (a .xs .now) (i .1) (s .pre .0) (c1 .loop-test .taken) in
-    (writing-more (i .0) t (c .before .before .write-slot .ensures .0) (c .before .before .write-slot .ensures .1), ahead-more (i .1) (c1 .loop-test .taken))
+    let t = slots-fields (2 ^ 64) (a .before) (a .after) (a .xs .now) (i .1) (s .pre .0) (taken .loop-test .taken) in
+    (writing-more (i .0) t (c .before .before .write-slot .ensures .0) (c .before .before .write-slot .ensures .1), ahead-more (i .1) (taken .loop-test .taken))
 
 same-length : tie.Need-same-length Inv-loop μ-loop
 same-length c = writing-long (c .before .loop .inv .0)
