@@ -5,7 +5,7 @@ use mathlib.Core.List.{List, [], _∷_, _++_, flatMap, append-assoc, append-nil}
 use Prim.Native.Nat.{ℕ, zero, suc, _+_, _*_, _^_, _≤_, _<_}
 use native.Mathlib.Nat.{mul-suc}
 use native.Mathlib.Omega.{arith}
-use lib.Dec.{eqb}
+use lib.Dec.{ltb, eqb}
 use lib.ListN.{length, getD, take, drop, replicate, length-append, length-drop, length-replicate, getD-replicate}
 use lib.Seq.{length-take-le, take-at, drop-at, drop-drop, getD-at, split-at, drop-append-add}
 use borrow.Author.Tests.{ltb-true, lt-ltb, eqb-true, eq-eqb}
@@ -134,7 +134,7 @@ module _ (top before after : ℕ) (small : top ≤ 2 ^ 64) where
           tidy =
               rw (← x, g)
               (join _ _ (eq-eqb _ _ (length-replicate (before + suc after) 0))
-              (join _ _ (every-zero _ (before + suc after) (lt-ltb 0 top (omega arith))) (every-zero _ (before + suc after) refl)));
+              (join _ _ (every-zero (λ m. ltb m top) (before + suc after) (lt-ltb 0 top (omega arith))) (every-zero (λ m. eqb m 0) (before + suc after) refl)));
           there = rw (← x, g, ← y, o) (rw w at (i .there));
           place = rw (← x, g, ← y, o) (rw w at (i .place));
         }
