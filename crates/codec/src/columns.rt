@@ -30,7 +30,7 @@ pub fn read_columns(
     let mut i = first;
     let mut c: usize = 0;
     while c < rooms.len() {
-        if rooms[c] < used[c] {
+        if used[c] > rooms[c] {
             return Place::Bad;
         }
         let place = read_numbers(bytes, at, out, i, i + used[c]);
