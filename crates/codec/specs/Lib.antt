@@ -19,7 +19,6 @@ pub mod Parts
 pub mod ColumnsLaws
 pub mod ShapesLoops
 pub mod ColumnsLoops
-pub mod PartLaws
 pub mod SlotsLaws
-pub mod Loops
+pub mod SlotSteps
 pub mod SlotsLoops

@@ -1,5 +1,5 @@
 -- Slots: what is written is read back, and only what is written is read.
-use mathlib.Core.Path.{_≡_, refl, sym, ap, _∙_}
+use mathlib.Core.Path.{_≡_, refl, sym, _∙_}
 use mathlib.Core.Bool.{Bool, true, false}
 use mathlib.Core.List.{List, [], _∷_, _++_, flatMap, append-assoc, append-nil}
 use Prim.Native.Nat.{ℕ, zero, suc, _+_, _*_, _^_, _≤_, _<_}
@@ -20,35 +20,21 @@ use Rattle.codec.specs.Exact.{Bytes, Is-read, Exact, bytes-append, besid
 use Rattle.codec.specs.ReadLaws.{both-read}
 use Rattle.codec.specs.LebLaws.{Number-read}
 use Rattle.codec.specs.NumbersLaws.{below-back, below-only, numbers-exact, numbers-long}
-use Rattle.codec.specs.PartLaws.{every-at}
+use Rattle.codec.specs.Zeros.{zeros}
+use Rattle.codec.specs.Parts.{every-take, every-drop}
 
--- A list of zeros.
-pub zeros : (ns : List ℕ) → all-zero ns ≡ true → replicate (length ns) 0 ≡ ns
-unfolding every
-zeros [] h = refl
-zeros (n ∷ ns) h =
-    let b = both _ _ h in
-    let e = eqb-true n 0 (b .0) in
-    rw e (ap (λ (r : List ℕ). 0 ∷ r) (zeros ns (b .1)))
-
+-- Zeros pass where 0 does.
 every-zero : (p : ℕ → Bool) (k : ℕ) → p 0 ≡ true → every p (replicate k 0) ≡ true
 unfolding every
 every-zero p zero h = refl
 every-zero p (suc k) h = join _ _ h (every-zero p k h)
 
--- A part of what all pass.
-module _ (p : ℕ → Bool) where
-  every-take : (k : ℕ) (ns : List ℕ) → every p ns ≡ true → every p (take k ns) ≡ true
-  unfolding every
-  every-take zero ns h = refl
-  every-take (suc k) [] h = refl
-  every-take (suc k) (n ∷ ns) h = let b = both _ _ h in join _ _ (b .0) (every-take k ns (b .1))
-
-  every-drop : (k : ℕ) (ns : List ℕ) → every p ns ≡ true → every p (drop k ns) ≡ true
-  unfolding every
-  every-drop zero ns h = h
-  every-drop (suc k) [] h = refl
-  every-drop (suc k) (n ∷ ns) h = every-drop k ns (both _ _ h .1)
+-- One of those that pass.
+every-at : (p : ℕ → Bool) (ns : List ℕ) (i : ℕ) → every p ns ≡ true → i < length ns → p (getD ns i 0) ≡ true
+unfolding every
+every-at p [] i h l = absurd (omega arith)
+every-at p (n ∷ ns) zero h l = both _ _ h .0
+every-at p (n ∷ ns) (suc i) h l = every-at p ns i (both _ _ h .1) (omega arith)
 
 -- Behind what stands at a place.
 behind : (bytes : List ℕ) (at : ℕ) (f g : List ℕ) → drop at bytes ≡ f ++ g → drop (at + length f) bytes ≡ g
@@ -74,7 +60,7 @@ module _ (top before after : ℕ) (small : top ≤ 2 ^ 64) where
   -- READ BACK.
   module _ (bytes rest ns : List ℕ) (at : ℕ) (n : length ns ≡ before + suc after) (below : all-below top ns ≡ true) where
     lead-below : getD ns before 0 < top
-    lead-below = ltb-true (getD ns before 0) top (every-at _ 0 ns before below (omega arith))
+    lead-below = ltb-true (getD ns before 0) top (every-at _ ns before below (omega arith))
 
     back-unused : getD ns before 0 ≡ 0 → all-zero ns ≡ true → drop at bytes ≡ bytes-of (0 ∷ []) ++ rest → onward (number-below top bytes at) (behind-lead bytes) ≡ got ns (at + length (bytes-of (0 ∷ [])))
     unfolding onward if_then_else_ flatMap
@@ -82,7 +68,7 @@ module _ (top before after : ℕ) (small : top ≤ 2 ^ 64) where
         let l = lead-below in
         let o : bytes-of (0 ∷ []) ≡ leb128 0 = append-nil (leb128 0) in
         let i : number-below top bytes at ≡ got 0 (at + length (leb128 0)) = below-back top bytes rest at 0 small (omega arith) (rw o at e) in
-        let r : replicate (before + suc after) 0 ≡ ns = rw n at (zeros ns h) in
+        let r : replicate (before + suc after) 0 ≡ ns = sym (rw n at (zeros ns h)) in
         rw (i, o, r)
 
     back-used : (lead : ℕ) → lead ≡ getD ns before 0 → eqb lead 0 ≡ false → drop at bytes ≡ bytes-of (lead ∷ take before ns ++ drop (suc before) ns) ++ rest → onward (number-below top bytes at) (behind-lead bytes) ≡ got ns (at + length (bytes-of (lead ∷ take before ns ++ drop (suc before) ns)))

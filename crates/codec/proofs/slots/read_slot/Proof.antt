@@ -4,7 +4,7 @@ use native.Mathlib.Omega.{arith}
 use borrow.Author.Needs.{needs}
 use lib.ListN.{length-set}
 use Rattle.codec.specs.StoredLaws.{at-got, at-bad, value-got, value-bad, bad-place, bad-stored, got-place}
-use Rattle.codec.specs.SlotsLoops.{no-lead, unused-read, unused-stored, used-bad, used-place, used-stored}
+use Rattle.codec.specs.SlotSteps.{no-lead, unused-read, unused-stored, used-bad, used-place, used-stored}
 use Rattle.codec.proofs.slots.read_slot.Statement.{statement}
 use Rattle.codec.proofs.slots.read_slot.Tie as tie
 

@@ -3,8 +3,8 @@ use native.Mathlib.Omega.{arith}
 use borrow.Author.Needs.{needs}
 use lib.ListN.{getD}
 use Rattle.codec.specs.LebLaws.{leb-few}
-use Rattle.codec.specs.PartLaws.{part-few}
-use Rattle.codec.specs.SlotsLoops.{unused-size, used-size}
+use Rattle.codec.specs.ColumnsLoops.{part-few}
+use Rattle.codec.specs.SlotSteps.{unused-size, used-size}
 use Rattle.codec.proofs.slots.slot_size.Statement.{statement}
 use Rattle.codec.proofs.slots.slot_size.Tie as tie
 
@@ -19,7 +19,7 @@ add-result c =
     let s = c .before .before .before .before .before .before in
     let a = s .args in
     let l = leb-few (getD (a .xs .now) (a .first + a .before) 0) in
-    let f = part-few (a .xs .now) (a .first) (a .before) in
+    let f = part-few (a .xs .now) (a .first) (a .before) (omega (arith, s .pre)) in
     omega (arith, l, f, s .pre, c .longs-size .ensures, c .before .number-size .ensures)
 
 add-result-2 : tie.Need-add-result-2
@@ -27,8 +27,8 @@ add-result-2 c =
     let s = c .before .before .before .before .before .before .before in
     let a = s .args in
     let l = leb-few (getD (a .xs .now) (a .first + a .before) 0) in
-    let f = part-few (a .xs .now) (a .first) (a .before) in
-    let b = part-few (a .xs .now) (a .first + a .before + 1) (a .after) in
+    let f = part-few (a .xs .now) (a .first) (a .before) (omega (arith, s .pre)) in
+    let b = part-few (a .xs .now) (a .first + a .before + 1) (a .after) (omega (arith, s .pre)) in
     omega (arith, l, f, b, s .pre, c .longs-size2 .ensures, c .before .longs-size .ensures, c .before .before .number-size .ensures)
 
 returns-2 : tie.Need-returns-2

@@ -2,7 +2,7 @@ use mathlib.Core.Path.{_≡_, sym, _∙_}
 use Prim.Native.Nat.{suc, _+_, _^_}
 use native.Mathlib.Omega.{arith}
 use borrow.Author.Needs.{needs}
-use Rattle.codec.specs.SlotsLoops.{unused-tidy, used-tidy}
+use Rattle.codec.specs.SlotSteps.{unused-tidy, used-tidy}
 use Rattle.codec.proofs.slots.slot_tidy.Statement.{statement}
 use Rattle.codec.proofs.slots.slot_tidy.Tie as tie
 

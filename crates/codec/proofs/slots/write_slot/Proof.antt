@@ -1,9 +1,7 @@
-use mathlib.Core.Path.{refl}
 use Prim.Native.Nat.{_^_}
 use native.Mathlib.Omega.{arith}
 use borrow.Author.Needs.{needs}
-use Rattle.codec.specs.Loops.{only-bytes, writing-start, writing-room, writing-more, writing-place, writing-end}
-use Rattle.codec.specs.SlotsLoops.{lead-first, unused-none, front-first}
+use Rattle.codec.specs.SlotSteps.{lead-fits, unused-written, front-fits, back-fits, used-written}
 use Rattle.codec.proofs.slots.write_slot.Statement.{statement}
 use Rattle.codec.proofs.slots.write_slot.Tie as tie
 
@@ -11,7 +9,7 @@ write-number-requires : tie.Need-write-number-requires
 write-number-requires c κs =
     let s = c .before .before .before .before in
     let a = s .args in
-    writing-room (writing-start {list = a .out .now} refl (s .pre .1)) (lead-first (2 ^ 64) (a .before) (a .after) (a .xs .now) (a .first) (s .pre .0))
+    lead-fits (2 ^ 64) (a .before) (a .after) (a .xs .now) (a .first) (s .pre .0) (a .out .now) (a .at) (s .pre .1)
 
 write-longs-requires : tie.Need-write-longs-requires
 write-longs-requires c κs =
@@ -19,10 +17,7 @@ write-longs-requires c κs =
     let number = tested .before .before .before .before in
     let s = number .before .before .before .before .before in
     let a = s .args in
-    let begins = lead-first (2 ^ 64) (a .before) (a .after) (a .xs .now) (a .first) (s .pre .0) in
-    let w = writing-more (writing-start refl (s .pre .1)) begins (number .write-number .ensures .0) (number .write-number .ensures .1) in
-    let f = front-first (2 ^ 64) (a .before) (a .after) (a .xs .now) (a .first) (s .pre .0) (λ z. omega (arith, z, tested .if1 .taken)) in
-    (omega arith, omega (arith, s .pre .0), writing-room w f)
+    (omega arith, omega (arith, s .pre .0), front-fits (2 ^ 64) (a .before) (a .after) (a .xs .now) (a .first) (s .pre .0) (a .out .now) (a .at) (s .pre .1) (number .write-number .ensures .0) (number .write-number .ensures .1) (λ z. omega (arith, z, tested .if1 .taken)))
 
 write-longs-requires-2 : tie.Need-write-longs-requires-2
 write-longs-requires-2 c κs =
@@ -31,11 +26,7 @@ write-longs-requires-2 c κs =
     let number = tested .before .before .before .before in
     let s = number .before .before .before .before .before in
     let a = s .args in
-    let begins = lead-first (2 ^ 64) (a .before) (a .after) (a .xs .now) (a .first) (s .pre .0) in
-    let w = writing-more (writing-start refl (s .pre .1)) begins (number .write-number .ensures .0) (number .write-number .ensures .1) in
-    let f = front-first (2 ^ 64) (a .before) (a .after) (a .xs .now) (a .first) (s .pre .0) (λ z. omega (arith, z, tested .if1 .taken)) in
-    let v = writing-more w f (one .write-longs .ensures .0) (one .write-longs .ensures .1) in
-    (omega arith, omega (arith, s .pre .0), writing-room v (only-bytes _))
+    (omega arith, omega (arith, s .pre .0), back-fits (2 ^ 64) (a .before) (a .after) (a .xs .now) (a .first) (s .pre .0) (a .out .now) (a .at) (s .pre .1) (number .write-number .ensures .0) (number .write-number .ensures .1) (λ z. omega (arith, z, tested .if1 .taken)) (one .write-longs .ensures .0) (one .write-longs .ensures .1))
 
 returns : tie.Need-returns
 returns c =
@@ -45,22 +36,14 @@ returns c =
     let number = tested .before .before .before .before in
     let s = number .before .before .before .before .before in
     let a = s .args in
-    let begins = lead-first (2 ^ 64) (a .before) (a .after) (a .xs .now) (a .first) (s .pre .0) in
-    let w = writing-more (writing-start refl (s .pre .1)) begins (number .write-number .ensures .0) (number .write-number .ensures .1) in
-    let f = front-first (2 ^ 64) (a .before) (a .after) (a .xs .now) (a .first) (s .pre .0) (λ z. omega (arith, z, tested .if1 .taken)) in
-    let v = writing-more w f (one .write-longs .ensures .0) (one .write-longs .ensures .1) in
-    let u = writing-more v (only-bytes _) (two .write-longs2 .ensures .0) (two .write-longs2 .ensures .1) in
-    (writing-place u refl, writing-end u refl)
+    used-written (2 ^ 64) (a .before) (a .after) (a .xs .now) (a .first) (s .pre .0) (a .out .now) (a .at) (s .pre .1) (number .write-number .ensures .0) (number .write-number .ensures .1) (λ z. omega (arith, z, tested .if1 .taken)) (one .write-longs .ensures .0) (one .write-longs .ensures .1) (two .write-longs2 .ensures .0) (two .write-longs2 .ensures .1)
 
 returns-2 : tie.Need-returns-2
 returns-2 c =
     let number = c .before .before .before .before in
     let s = number .before .before .before .before .before in
     let a = s .args in
-    let begins = lead-first (2 ^ 64) (a .before) (a .after) (a .xs .now) (a .first) (s .pre .0) in
-    let w = writing-more (writing-start refl (s .pre .1)) begins (number .write-number .ensures .0) (number .write-number .ensures .1) in
-    let z = unused-none (2 ^ 64) (a .before) (a .after) (a .xs .now) (a .first) (s .pre .0) (omega (arith, c .if1 .left)) in
-    (writing-place w z, writing-end w z)
+    unused-written (2 ^ 64) (a .before) (a .after) (a .xs .now) (a .first) (s .pre .0) (a .out .now) (a .at) (s .pre .1) (number .write-number .ensures .0) (number .write-number .ensures .1) (omega (arith, c .if1 .left))
 
 pub write-slot-spec : {M : Type 1} → statement M
 write-slot-spec =
