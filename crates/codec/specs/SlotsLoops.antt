@@ -44,7 +44,7 @@ next-place i before after = omega arith
 pub record Room (before after k i n size : ℕ) : Type 0 where
   pub is : i + (before + suc after) * (k - n) ≤ size
 
-pub room-start : {before after k i size : ℕ} → i + (before + suc after) * k ≤ size → Room before after k i 0 size
+room-start : {before after k i size : ℕ} → i + (before + suc after) * k ≤ size → Room before after k i 0 size
 room-start {before} {after} {k} {i} {size} h =
     let e : k - 0 ≡ k = omega arith in
     record { is = rw e h }
@@ -59,7 +59,7 @@ module _ {before after k i n size : ℕ} (inv : Room before after k i n size) (h
   pub room-here : i + (before + suc after) ≤ size
   room-here = let a = next-is in omega arith
 
-  pub room-more : Room before after k (i + (before + 1 + after)) (n + 1) size
+  room-more : Room before after k (i + (before + 1 + after)) (n + 1) size
   room-more = record { is = rw (next-place i before after) next-is }
 
 -- THE LOOP THAT READS.
