@@ -1,11 +1,12 @@
 -- Columns and stages, both ways: what is written is read back, and only what is written is read.
-use mathlib.Core.Path.{_≡_, refl, _∙_}
+use mathlib.Core.Path.{_≡_, refl, ap, _∙_}
 use mathlib.Core.Bool.{true}
-use mathlib.Core.List.{List, [], _∷_, _++_}
-use Prim.Native.Nat.{ℕ, _+_, _-_, _^_, _≤_}
+use mathlib.Core.List.{List, [], _∷_, _++_, flatMap}
+use Prim.Native.Nat.{ℕ, _+_, _*_, _-_, _^_, _≤_}
 use native.Mathlib.Omega.{arith}
+use native.Mathlib.Nat.{mul-suc}
 use lib.Dec.{ltb}
-use lib.ListN.{length, getD, take, drop, length-drop, take-append-drop}
+use lib.ListN.{length, getD, take, drop, length-append, length-take, length-drop, take-append-drop}
 use lib.Seq.{length-take-le}
 use borrow.Author.Tests.{ltb-false, le-ltb, leb-true, le-leb, eqb-true, eq-eqb}
 use Rattle.laws.specs.Bool.{if_then_else_, split, both, join}
@@ -15,6 +16,7 @@ use Rattle.codec.specs.Read.{Read, got, bad, onward}
 use Rattle.codec.specs.Numbers.{bytes-of, numbers-at, all-below}
 use Rattle.codec.specs.Stages.{numbers, column, beside, total, columns, Stage, widths, staged, all-zero}
 use Rattle.codec.specs.Exact.{Bytes, Is-read, Exact, not-bad, beside-exact}
+use Rattle.codec.specs.LebLaws.{leb-few}
 use Rattle.codec.specs.NumbersLaws.{numbers-exact}
 use Rattle.codec.specs.Zeros.{all-zeros, zeros, padded-long, take-padded, drop-padded}
 
@@ -35,7 +37,7 @@ module _ (top room used : ℕ) where
       let c = both _ _ (b .1) in
       record { long = eqb-true (length ns) room (a .0); low = leb-true used room (b .0); below = c .0; blank = c .1 }
 
-  pub column-tidy : (ns : List ℕ) → Tidy-column ns → column top room used .tidy ns ≡ true
+  column-tidy : (ns : List ℕ) → Tidy-column ns → column top room used .tidy ns ≡ true
   unfolding column
   column-tidy ns t = join _ _ (eq-eqb (length ns) room (t .long)) (join _ _ (le-leb used room (t .low)) (join _ _ (t .below) (t .blank)))
 
@@ -109,6 +111,25 @@ columns-exact top (room ∷ rooms) used small =
     beside-exact (column top room (getD used 0 0)) (λ _. columns top rooms (drop 1 used)) (total rooms) (column-exact top room (getD used 0 0) small)
     (λ _. columns-exact top rooms (drop 1 used) small)
     (λ _. columns-width top rooms (drop 1 used))
+
+-- HOW MANY BYTES: at most ten a number.
+pub bytes-few : (ns : List ℕ) → length (bytes-of ns) ≤ 10 * length ns
+unfolding flatMap
+bytes-few [] = omega arith
+bytes-few (n ∷ ns) = let a = leb-few n in let b = bytes-few ns in rw (length-append, mul-suc) (omega arith)
+
+fields-few : (top : ℕ) (rooms used ns : List ℕ) → length (columns top rooms used .fields ns) ≤ length ns
+unfolding columns numbers beside column
+fields-few top [] used ns = omega arith
+fields-few top (room ∷ rooms) used ns =
+    let t = length-take (getD used 0 0) (take room ns) in
+    let f = fields-few top rooms (drop 1 used) (drop room ns) in
+    let a = length-append (take room ns) (drop room ns) in
+    let e : length (take room ns ++ drop room ns) ≡ length ns = ap length (take-append-drop room ns) in
+    rw length-append (omega arith)
+
+pub columns-few : (top : ℕ) (rooms used ns : List ℕ) → length (bytes-of (columns top rooms used .fields ns)) ≤ 10 * length ns
+columns-few top rooms used ns = let a = bytes-few (columns top rooms used .fields ns) in let b = fields-few top rooms used ns in omega arith
 
 -- STAGES. Each is exact and as wide as its room, whatever stands before it; so they are together.
 pub record Stage-exact (stage : Stage) : Type 0 where

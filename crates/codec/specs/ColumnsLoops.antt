@@ -1,13 +1,12 @@
 -- The loops over columns: the shape that is left at a column, and what the numbers of one column say.
 use mathlib.Core.Path.{_≡_, refl, sym, ap, _∙_}
 use mathlib.Core.Bool.{Bool, true, false, not}
-use mathlib.Core.List.{List, [], _∷_, flatMap}
+use mathlib.Core.List.{List, _∷_}
 use Prim.Native.Nat.{ℕ, _+_, _*_, _-_, _≤_, _<_}
 use native.Mathlib.Omega.{arith}
-use native.Mathlib.Nat.{mul-suc}
 use native.Mathlib.Numerals.{add-one}
 use lib.Dec.{ltb}
-use lib.ListN.{length, getD, drop, length-append, drop-of-length-le}
+use lib.ListN.{length, getD, drop, drop-of-length-le}
 use lib.Seq.{drop-cons, drop-drop, getD-drop}
 use borrow.Author.Tests.{lt-ltb, le-leb, lt-leb, eq-eqb, not-true, not-false}
 use Rattle.laws.specs.Bool.{if_then_else_, _and_}
@@ -19,20 +18,19 @@ use Rattle.codec.specs.Numbers.{bytes-of, numbers-at, part}
 use Rattle.codec.specs.Stages.{Shape, numbers, column, beside, total, columns, all-zero}
 use Rattle.codec.specs.Stored.{place-of, Stored, Zero-from}
 use Rattle.codec.specs.Exact.{not-bad}
-use Rattle.codec.specs.LebLaws.{leb-few}
 use Rattle.codec.specs.NumbersLaws.{numbers-long}
 use Rattle.codec.specs.Zeros.{padded-long, splice-padded}
 use Rattle.codec.specs.Parts.{part-long, part-front, part-back, part-below, every-take}
 use Rattle.codec.specs.StoredLaws.{at-got, at-bad}
 use Rattle.codec.specs.ShapesLoops.{Reading-shapes, reading-start, reading-long, reading-room, reading-bad, reading-more, reading-place, reading-stored, neat, written, neat-next, neat-none, Ahead, Step, step, Writing-shapes, writing-start, writing-long, writing-room, writing-more, writing-place, writing-end, Counting-shapes, counting-more, counting-end}
-use Rattle.codec.specs.ColumnsLaws.{tidy-column, column-read, columns-width}
+use Rattle.codec.specs.ColumnsLaws.{tidy-column, column-read, columns-width, bytes-few}
 
 -- THE SHAPE THAT IS LEFT at column c.
-abbrev pub left-at : (top : ℕ) (rooms used : List ℕ) (c : ℕ) → Shape
+abbrev left-at : (top : ℕ) (rooms used : List ℕ) (c : ℕ) → Shape
 left-at top rooms used c = columns top (drop c rooms) (drop c used)
 
 module _ (top : ℕ) (rooms used : List ℕ) (c : ℕ) where
-  pub left-next : c < length rooms → left-at top rooms used c ≡ beside (column top (getD rooms c 0) (getD used c 0)) (λ _. left-at top rooms used (c + 1)) (total (drop (c + 1) rooms))
+  left-next : c < length rooms → left-at top rooms used c ≡ beside (column top (getD rooms c 0) (getD used c 0)) (λ _. left-at top rooms used (c + 1)) (total (drop (c + 1) rooms))
   unfolding columns
   left-next h =
       let z : c + 0 ≡ c = omega arith in
@@ -41,12 +39,12 @@ module _ (top : ℕ) (rooms used : List ℕ) (c : ℕ) where
       let d : drop c rooms ≡ getD rooms c 0 ∷ drop (c + 1) rooms = rw add-one (drop-cons rooms c 0 h) in
       rw (d, a, b)
 
-  pub left-none : length rooms ≤ c → left-at top rooms used c ≡ numbers 0 0
+  left-none : length rooms ≤ c → left-at top rooms used c ≡ numbers 0 0
   unfolding columns
   left-none h = rw (drop-of-length-le rooms h)
 
 -- ONE COLUMN READ. A count above its room; the numbers in a list that is zero from there on.
-pub column-over : (top room used : ℕ) (bytes : List ℕ) (at : ℕ) → room < used → column top room used .read bytes at ≡ bad
+column-over : (top room used : ℕ) (bytes : List ℕ) (at : ℕ) → room < used → column top room used .read bytes at ≡ bad
 unfolding column if_then_else_
 column-over top room used bytes at h = rw (lt-ltb room used h)
 
@@ -56,7 +54,7 @@ module _ (top room used : ℕ) (bytes : List ℕ) (at : ℕ) (low : used ≤ roo
   same-place bad = refl
   same-place (got ns p) = refl
 
-  pub column-place : {z : Place} → z ≡ place-of (numbers-at top used bytes at) → z ≡ place-of (column top room used .read bytes at)
+  column-place : {z : Place} → z ≡ place-of (numbers-at top used bytes at) → z ≡ place-of (column top room used .read bytes at)
   column-place e = e ∙ same-place (numbers-at top used bytes at) ∙ ap place-of (sym (column-read top room used bytes at low))
 
   -- what the numbers are where the column was read
@@ -77,13 +75,13 @@ module _ (top room used : ℕ) (bytes : List ℕ) (at : ℕ) (low : used ≤ roo
   filled-up : (ns : List ℕ) (p : ℕ) → column top room used .read bytes at ≡ got ns p → Filled-up ns p
   filled-up ns p e = by-numbers ns p (numbers-at top used bytes at) refl (sym (column-read top room used bytes at low) ∙ e)
 
-  pub column-long : (ns : List ℕ) (p : ℕ) → column top room used .read bytes at ≡ got ns p → length ns ≡ room
+  column-long : (ns : List ℕ) (p : ℕ) → column top room used .read bytes at ≡ got ns p → length ns ≡ room
   column-long ns p e =
       let f = filled-up ns p e in
       let n = f .long in
       rw (← f .full) (padded-long room (f .xs) (omega arith))
 
-  pub column-stored : {l : List ℕ} {i : ℕ} {after : List ℕ} → i + room ≤ length l → Zero-from i l → Stored (numbers-at top used bytes at) l i after → Stored (column top room used .read bytes at) l i after
+  column-stored : {l : List ℕ} {i : ℕ} {after : List ℕ} → i + room ≤ length l → Zero-from i l → Stored (numbers-at top used bytes at) l i after → Stored (column top room used .read bytes at) l i after
   column-stored {l} {i} {after} h z s =
       record {
         is = λ ns p e.
@@ -95,13 +93,13 @@ module _ (top room used : ℕ) (bytes : List ℕ) (at : ℕ) (low : used ≤ roo
 
 -- ONE COLUMN IN A LIST. Its numbers that are used.
 module _ (top room used : ℕ) (xs : List ℕ) (i : ℕ) where
-  pub used-part : used ≤ room → column top room used .fields (part xs i (i + room)) ≡ part xs i (i + used)
+  used-part : used ≤ room → column top room used .fields (part xs i (i + room)) ≡ part xs i (i + used)
   unfolding column
   used-part low =
       let e : used + (room - used) ≡ room = omega arith in
       rw e at (part-front xs i used (room - used))
 
-  pub column-neat : used ≤ room → i + room ≤ length xs → ((n : ℕ) → getD xs n 0 < top) → column top room used .tidy (part xs i (i + room)) ≡ all-zero (part xs (i + used) (i + room))
+  column-neat : used ≤ room → i + room ≤ length xs → ((n : ℕ) → getD xs n 0 < top) → column top room used .tidy (part xs i (i + room)) ≡ all-zero (part xs (i + used) (i + room))
   unfolding column _and_
   column-neat low h small =
       let n = part-long xs i room h in
@@ -111,17 +109,12 @@ module _ (top room used : ℕ) (xs : List ℕ) (i : ℕ) where
       let s = every-take (λ m. ltb m top) used (part xs i (i + room)) (part-below top xs i (i + room) small) in
       rw (eq-eqb (length (part xs i (i + room))) room n, le-leb used room low, s, b)
 
-  pub column-crowded : room < used → i + room ≤ length xs → column top room used .tidy (part xs i (i + room)) ≡ false
+  column-crowded : room < used → i + room ≤ length xs → column top room used .tidy (part xs i (i + room)) ≡ false
   unfolding column _and_
   column-crowded over h = rw (eq-eqb (length (part xs i (i + room))) room (part-long xs i room h), lt-leb used room over)
 
 -- At most ten bytes a number.
-bytes-few : (ns : List ℕ) → length (bytes-of ns) ≤ 10 * length ns
-unfolding flatMap
-bytes-few [] = omega arith
-bytes-few (n ∷ ns) = let a = leb-few n in let b = bytes-few ns in rw (length-append, mul-suc) (omega arith)
-
-pub part-few : (xs : List ℕ) (i k : ℕ) → i + k ≤ length xs → length (bytes-of (part xs i (i + k))) ≤ 10 * k
+part-few : (xs : List ℕ) (i k : ℕ) → i + k ≤ length xs → length (bytes-of (part xs i (i + k))) ≤ 10 * k
 part-few xs i k h = let n = part-long xs i k h in rw n at (bytes-few (part xs i (i + k)))
 
 -- THE LOOP THAT READS, at column c.
@@ -232,12 +225,12 @@ module _ {top : ℕ} {rooms used xs : List ℕ} {i c : ℕ} (inv : Tidy-columns 
   unfolding column
   tidy-low = tidy-column top (getD rooms c 0) (getD used c 0) (part xs i (i + getD rooms c 0)) (next .tidy) .low
 
-  pub tidy-more : Tidy-columns top rooms used xs (i + getD rooms c 0) (c + 1)
+  tidy-more : Tidy-columns top rooms used xs (i + getD rooms c 0) (c + 1)
   unfolding column
   tidy-more = record { ahead = next .ahead }
 
   -- the column's bytes
-  pub tidy-bytes : written xs (column top (getD rooms c 0) (getD used c 0)) i ≡ bytes-of (part xs i (i + getD used c 0))
+  tidy-bytes : written xs (column top (getD rooms c 0) (getD used c 0)) i ≡ bytes-of (part xs i (i + getD used c 0))
   unfolding column
   tidy-bytes = ap bytes-of (used-part top (getD rooms c 0) (getD used c 0) xs i tidy-low)
 

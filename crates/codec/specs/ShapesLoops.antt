@@ -2,9 +2,10 @@
 use mathlib.Core.Path.{_≡_, refl, sym, ap, _∙_}
 use mathlib.Core.Bool.{Bool, true}
 use mathlib.Core.List.{List, [], _++_, flatMap, append-assoc, append-nil}
-use Prim.Native.Nat.{ℕ, _+_, _*_, _≤_}
+use Prim.Native.Nat.{ℕ, _+_, _*_, _≤_, _<_}
 use native.Mathlib.Omega.{arith}
-use lib.ListN.{length, length-append}
+use lib.ListN.{length, getD, take, drop, length-append, List·getD-append}
+use lib.Seq.{length-take-le, getD-append-add}
 use Rattle.laws.specs.Bool.{_and_, both}
 use Rattle.laws.specs.Every.{every}
 use Rattle.laws.specs.Splice.{splice, splice-none, splice-more, length-splice}
@@ -36,6 +37,13 @@ nothing-yet (got ns p) = refl
 pub reading-start : (bytes before : List ℕ) (first : ℕ) (shape : Shape) (at : ℕ) → first + shape .width ≤ length before → Zero-from first before → Reading-shapes bytes (shape .read bytes at) before first shape at first before
 reading-start bytes before first shape at h z = record { so-far = []; left = nothing-yet (shape .read bytes at); is = sym (splice-none before first); place = omega arith; room = h; blank = z }
 
+getD-splice : (xs : List ℕ) (at : ℕ) (ys : List ℕ) (k : ℕ) → at ≤ length xs → k < length ys → getD (splice xs at ys) (at + k) 0 ≡ getD ys k 0
+unfolding splice
+getD-splice xs at ys k h g =
+    let t = length-take-le at xs h in
+    let e : at + k ≡ length (take at xs) + k = omega arith in
+    rw (e, append-assoc) (getD-append-add (take at xs) (ys ++ drop (at + length ys) xs) k 0 ∙ List·getD-append ys (drop (at + length ys) xs) 0 k g)
+
 behind : (xs ys : List ℕ) (r : Read (List ℕ)) → onward r (λ ns p. got (xs ++ ys ++ ns) p) ≡ onward (onward r (λ ns p. got (ys ++ ns) p)) (λ ns p. got (xs ++ ns) p)
 unfolding onward
 behind xs ys bad = refl
@@ -44,6 +52,10 @@ behind xs ys (got ns p) = ap (λ (l : List ℕ). got l p) (append-assoc xs ys ns
 module _ {bytes : List ℕ} {whole : Read (List ℕ)} {before : List ℕ} {first : ℕ} {rest : Shape} {at i : ℕ} {list : List ℕ} (inv : Reading-shapes bytes whole before first rest at i list) where
   pub reading-long : length list ≡ length before
   reading-long = let p = inv .place in let r = inv .room in rw (inv .is) (length-splice before first (inv .so-far) (omega arith))
+
+  -- what was read, number by number
+  pub reading-seen : (k : ℕ) → k < length (inv .so-far) → getD list (first + k) 0 ≡ getD (inv .so-far) k 0
+  reading-seen k h = let p = inv .place in let r = inv .room in rw (inv .is) (getD-splice before first (inv .so-far) k (omega arith) h)
 
   -- a shape is next, and another one behind it
   module _ (one : Shape) (more : List ℕ → Shape) (width : ℕ) (next : rest ≡ beside one more width) where
