@@ -19,11 +19,10 @@ use Rattle.codec.specs.Slots.{slot}
 use Rattle.codec.specs.Stored.{place-of, Stored, Zero-from}
 use Rattle.codec.specs.Exact.{bytes-append}
 use Rattle.codec.specs.ReadLaws.{both-read}
-use Rattle.codec.specs.LebLaws.{leb-few}
 use Rattle.codec.specs.NumbersLaws.{numbers-long}
 use Rattle.codec.specs.Zeros.{splice-padded}
+use Rattle.codec.specs.SlotsLaws.{slot-few}
 use Rattle.codec.specs.Parts.{part-long, part-front, part-back, part-below}
-use Rattle.codec.specs.ColumnsLoops.{part-few}
 
 -- Zeros that are written where the list is zero change nothing.
 zeros-there : (list : List ℕ) (first k : ℕ) → Zero-from first list → first + k ≤ length list → list ≡ splice list first (replicate k 0)
@@ -151,14 +150,10 @@ module _ (top before after : ℕ) (xs : List ℕ) (first : ℕ) (room : first + 
   pub used-size : (lead ≡ 0 → ⊥) → length (leb128 lead) + length (bytes-of front) + length (bytes-of back) ≡ length whole
   used-size u = rw (used-bytes u, length-append, length-append) (omega arith)
 
-  pub slot-few : length whole ≤ 10 * (before + suc after)
-  slot-few =
-      let l = leb-few lead in
-      let f = part-few xs first before (omega arith) in
-      let b = part-few xs (first + before + 1) after (omega arith) in
-      split (eqb lead 0)
-      (λ z. let s = unused-size (eqb-true lead 0 z) in omega arith)
-      (λ z. let s = used-size (eqb-false lead 0 z) in omega arith)
+  pub here-few : length whole ≤ 10 * (before + suc after)
+  here-few =
+      let n = part-long xs first (before + suc after) room in
+      slot-few top before after here (omega arith)
 
   -- Whether it is tidy.
   module _ (each : (i : ℕ) → getD xs i 0 < top) where

@@ -6,7 +6,7 @@ use Prim.Native.Nat.{ℕ, zero, suc, _+_, _*_, _^_, _≤_, _<_}
 use native.Mathlib.Nat.{mul-suc}
 use native.Mathlib.Omega.{arith}
 use lib.Dec.{ltb, eqb}
-use lib.ListN.{length, getD, take, drop, replicate, length-append, length-drop, length-replicate, getD-replicate}
+use lib.ListN.{length, getD, take, drop, replicate, length-append, length-take, length-drop, length-replicate, getD-replicate}
 use lib.Seq.{length-take-le, take-at, drop-at, drop-drop, getD-at, split-at, drop-append-add}
 use borrow.Author.Tests.{ltb-true, lt-ltb, eqb-true, eq-eqb}
 use Rattle.laws.specs.Bool.{if_then_else_, split, both, join}
@@ -20,6 +20,7 @@ use Rattle.codec.specs.Exact.{Bytes, Is-read, Exact, bytes-append, besid
 use Rattle.codec.specs.ReadLaws.{both-read}
 use Rattle.codec.specs.LebLaws.{Number-read}
 use Rattle.codec.specs.NumbersLaws.{below-back, below-only, numbers-exact, numbers-long}
+use Rattle.codec.specs.ColumnsLaws.{bytes-few}
 use Rattle.codec.specs.Zeros.{zeros}
 use Rattle.codec.specs.Parts.{every-take, every-drop}
 
@@ -186,6 +187,21 @@ module _ (top before after : ℕ) (bytes ns : List ℕ) (at next : ℕ) where
       let n₂ = numbers-long top bytes after (b .place) (c .value) (c .place) (c .one) in
       rw (← x, length-append) (omega arith))
 
+-- How many bytes it takes: at most ten a number.
+module _ (top before after : ℕ) (ns : List ℕ) where
+  fields-few : length ns ≤ before + suc after → length (slot top before after .fields ns) ≤ before + suc after
+  unfolding slot if_then_else_
+  fields-few h =
+      let t = length-take before ns in
+      let d = length-drop (suc before) ns in
+      split (eqb (getD ns before 0) 0) (λ z. rw z (omega arith)) (λ z. rw (z, length-append) (omega arith))
+
+  pub slot-few : length ns ≤ before + suc after → length (bytes-of (slot top before after .fields ns)) ≤ 10 * (before + suc after)
+  slot-few h =
+      let a = bytes-few (slot top before after .fields ns) in
+      let b = fields-few h in
+      omega arith
+
 -- SLOTS.
 module _ (top before after : ℕ) where
   pub slots-width : (k : ℕ) → slots top before after k .width ≡ (before + suc after) * k
@@ -198,3 +214,15 @@ module _ (top before after : ℕ) where
   slots-exact zero small = numbers-exact 0 0 (omega arith)
   slots-exact (suc k) small =
       beside-exact (slot top before after) (λ _. slots top before after k) ((before + suc after) * k) (slot-exact top before after small) (λ _. slots-exact k small) (λ _. slots-width k)
+
+  pub slots-few : (k : ℕ) (ns : List ℕ) → length ns ≤ (before + suc after) * k → length (bytes-of (slots top before after k .fields ns)) ≤ 10 * ((before + suc after) * k)
+  unfolding slots numbers beside slot
+  slots-few zero ns h = let a = bytes-few ns in omega arith
+  slots-few (suc k) ns h =
+      let w = before + suc after in
+      let m : w * suc k ≡ w * k + w = rw mul-suc (omega arith) in
+      let t = length-take w ns in
+      let d = length-drop w ns in
+      let a = slot-few top before after (take w ns) (omega arith) in
+      let b = slots-few k (drop w ns) (omega arith) in
+      rw (bytes-append (slot top before after .fields (take w ns)) (slots top before after k .fields (drop w ns)), length-append) (omega arith)

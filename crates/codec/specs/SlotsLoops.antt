@@ -16,7 +16,7 @@ use Rattle.codec.specs.Slots.{slot, slots}
 use Rattle.codec.specs.Stored.{place-of, Stored, Zero-from}
 use Rattle.codec.specs.StoredLaws.{Got}
 use Rattle.codec.specs.SlotsLaws.{slot-long, slots-width}
-use Rattle.codec.specs.SlotSteps.{slot-few}
+use Rattle.codec.specs.SlotSteps.{here-few}
 use Rattle.codec.specs.ShapesLoops.{Reading-shapes, reading-start, reading-long, reading-room, reading-bad, reading-more, reading-place, reading-stored, neat, neat-next, neat-none, Writing-shapes, writing-start, writing-long, writing-room, writing-more, writing-place, writing-end, Counting-shapes, counting-more, counting-end}
 
 -- THE SLOTS FROM THE NTH ON: the nth, and those behind it; or none.
@@ -139,13 +139,13 @@ module _ {top before after k : ℕ} {xs whole : List ℕ} {i n size : ℕ} (inv 
     pub count-few : size + s ≤ 10 * (i + (before + suc after))
     count-few =
         let f = inv .counting .few in
-        let t = slot-few top before after xs i (room-here (inv .room) h) in
+        let t = here-few top before after xs i (room-here (inv .room) h) in
         omega arith
 
     pub count-more : Counting-slots top before after k xs whole (i + (before + 1 + after)) (n + 1) (size + s)
     unfolding slot
     count-more =
-        let t = slot-few top before after xs i (room-here (inv .room) h) in
+        let t = here-few top before after xs i (room-here (inv .room) h) in
         record {
           counting = rw (next-place i before after) (counting-more (inv .counting) (slot top before after) _ _ (left-next top before after h) (slots-width top before after (k - (n + 1))) e (omega arith));
           room = room-more (inv .room) h;
