@@ -14,12 +14,11 @@ pub mod NumbersLaws
 pub mod StoredLaws
 pub mod GroupsLaws
 pub mod NumbersLoops
-pub mod PartLaws
-pub mod SlotsLaws
-pub mod Loops
-pub mod SlotsLoops
 pub mod Zeros
 pub mod Parts
 pub mod ColumnsLaws
 pub mod ShapesLoops
 pub mod ColumnsLoops
+pub mod SlotsLaws
+pub mod SlotSteps
+pub mod SlotsLoops

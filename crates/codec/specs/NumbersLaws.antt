@@ -1,10 +1,10 @@
 -- Numbers one behind the other: what is written is read back, and only what is written is read.
 use mathlib.Core.Path.{_≡_, refl, sym, ap, _∙_}
-use mathlib.Core.Bool.{true, false}
+use mathlib.Core.Bool.{true}
 use mathlib.Core.List.{List, [], _∷_, _++_, flatMap, append-assoc}
 use Prim.Native.Nat.{ℕ, zero, suc, _+_, _^_, _≤_, _<_}
 use native.Mathlib.Omega.{arith}
-use lib.Dec.{ltb, eqb}
+use lib.Dec.{ltb}
 use lib.ListN.{length, drop, length-append}
 use lib.Seq.{drop-at, drop-drop}
 use borrow.Author.Tests.{ltb-true, lt-ltb, eqb-true, eq-eqb}
@@ -13,7 +13,7 @@ use Rattle.laws.specs.Every.{every}
 use Rattle.codec.specs.Read.{Read, got, bad, onward, tested}
 use Rattle.codec.specs.Leb.{leb128, number-at}
 use Rattle.codec.specs.Numbers.{bytes-of, number-below, numbers-at, all-below}
-use Rattle.codec.specs.Stages.{Shape, numbers}
+use Rattle.codec.specs.Stages.{numbers}
 use Rattle.codec.specs.Exact.{Bytes, Is-read, Exact, not-bad}
 use Rattle.codec.specs.LebLaws.{Number-read, number-back, number-only}
 
@@ -24,7 +24,7 @@ module _ (top : ℕ) where
   below-back bytes rest at n t h e = rw (number-back bytes rest at n (omega arith) e, lt-ltb n top h)
 
   -- what passed the test was read, and is below top
-  pub tested-below : (n next : ℕ) (r : Read ℕ) → tested (λ m. ltb m top) r ≡ got n next → (r ≡ got n next) × (n < top)
+  tested-below : (n next : ℕ) (r : Read ℕ) → tested (λ m. ltb m top) r ≡ got n next → (r ≡ got n next) × (n < top)
   unfolding tested onward if_then_else_
   tested-below n next bad e = not-bad e
   tested-below n next (got m p) e =

@@ -1,12 +1,10 @@
 -- Numbers one behind the other in loops: read, counted, written.
 use mathlib.Core.Path.{_≡_, refl, sym, ap, _∙_}
-use mathlib.Core.Bool.{true, false}
 use mathlib.Core.List.{List, [], _∷_, _++_, flatMap, append-assoc, append-nil}
 use Prim.Native.Nat.{ℕ, zero, suc, _+_, _*_, _-_, _≤_, _<_}
 use native.Mathlib.Numerals.{add-one}
 use native.Mathlib.Omega.{arith}
-use lib.Dec.{ltb}
-use lib.ListN.{length, getD, set, take, drop, length-append}
+use lib.ListN.{length, getD, set, length-append}
 use lib.Seq.{drop-cons}
 use borrow.Author.Tests.{lt-ltb, le-ltb}
 use Rattle.laws.specs.Bool.{if_then_else_}

@@ -47,7 +47,7 @@ module _ {A : Type 0} (p : A → Bool) where
   every-take (suc k) [] h = refl
   every-take (suc k) (x ∷ xs) h = let b = both _ _ h in join _ _ (b .0) (every-take k xs (b .1))
 
-  every-drop : (k : ℕ) (xs : List A) → every p xs ≡ true → every p (drop k xs) ≡ true
+  pub every-drop : (k : ℕ) (xs : List A) → every p xs ≡ true → every p (drop k xs) ≡ true
   unfolding every
   every-drop zero xs h = h
   every-drop (suc k) [] h = refl

@@ -1,54 +1,41 @@
 -- Slots: what is written is read back, and only what is written is read.
-use mathlib.Core.Path.{_≡_, refl, sym, ap, _∙_}
+use mathlib.Core.Path.{_≡_, refl, sym, _∙_}
 use mathlib.Core.Bool.{Bool, true, false}
 use mathlib.Core.List.{List, [], _∷_, _++_, flatMap, append-assoc, append-nil}
-use Prim.Native.Nat.{ℕ, zero, suc, _+_, _*_, _-_, _^_, _≤_, _<_}
+use Prim.Native.Nat.{ℕ, zero, suc, _+_, _*_, _^_, _≤_, _<_}
 use native.Mathlib.Nat.{mul-suc}
 use native.Mathlib.Omega.{arith}
 use lib.Dec.{ltb, eqb}
-use lib.ListN.{length, getD, take, drop, replicate, length-append, length-drop, length-replicate, getD-replicate}
-use lib.Seq.{length-take-le, take-at, drop-at, drop-drop, getD-at, split-at, append-snoc, drop-append-add}
-use borrow.Author.Tests.{ltb-true, lt-ltb, eqb-true, eqb-false, eq-eqb, ne-eqb}
-use Rattle.laws.specs.Bool.{if_then_else_, split, _and_, both, join}
+use lib.ListN.{length, getD, take, drop, replicate, length-append, length-take, length-drop, length-replicate, getD-replicate}
+use lib.Seq.{length-take-le, take-at, drop-at, drop-drop, getD-at, split-at, drop-append-add}
+use borrow.Author.Tests.{ltb-true, lt-ltb, eqb-true, eq-eqb}
+use Rattle.laws.specs.Bool.{if_then_else_, split, both, join}
 use Rattle.laws.specs.Every.{every, every-append}
-use Rattle.codec.specs.Read.{Read, got, bad, onward}
+use Rattle.codec.specs.Read.{Read, got, onward}
 use Rattle.codec.specs.Leb.{leb128}
 use Rattle.codec.specs.Numbers.{bytes-of, number-below, numbers-at, all-below}
-use Rattle.codec.specs.Stages.{Shape, numbers, beside, all-zero}
+use Rattle.codec.specs.Stages.{numbers, beside, all-zero}
 use Rattle.codec.specs.Slots.{slot, slots}
 use Rattle.codec.specs.Exact.{Bytes, Is-read, Exact, bytes-append, beside-exact}
-use Rattle.codec.specs.ReadLaws.{passed}
+use Rattle.codec.specs.ReadLaws.{both-read}
 use Rattle.codec.specs.LebLaws.{Number-read}
 use Rattle.codec.specs.NumbersLaws.{below-back, below-only, numbers-exact, numbers-long}
-use Rattle.codec.specs.PartLaws.{every-each, every-at}
+use Rattle.codec.specs.ColumnsLaws.{bytes-few}
+use Rattle.codec.specs.Zeros.{zeros}
+use Rattle.codec.specs.Parts.{every-take, every-drop}
 
--- A list of zeros.
-pub zeros : (ns : List ℕ) → all-zero ns ≡ true → replicate (length ns) 0 ≡ ns
-unfolding every
-zeros [] h = refl
-zeros (n ∷ ns) h =
-    let b = both _ _ h in
-    let e = eqb-true n 0 (b .0) in
-    rw e (ap (λ (r : List ℕ). 0 ∷ r) (zeros ns (b .1)))
-
+-- Zeros pass where 0 does.
 every-zero : (p : ℕ → Bool) (k : ℕ) → p 0 ≡ true → every p (replicate k 0) ≡ true
 unfolding every
 every-zero p zero h = refl
 every-zero p (suc k) h = join _ _ h (every-zero p k h)
 
--- A part of what all pass.
-module _ (p : ℕ → Bool) where
-  every-take : (k : ℕ) (ns : List ℕ) → every p ns ≡ true → every p (take k ns) ≡ true
-  unfolding every
-  every-take zero ns h = refl
-  every-take (suc k) [] h = refl
-  every-take (suc k) (n ∷ ns) h = let b = both _ _ h in join _ _ (b .0) (every-take k ns (b .1))
-
-  every-drop : (k : ℕ) (ns : List ℕ) → every p ns ≡ true → every p (drop k ns) ≡ true
-  unfolding every
-  every-drop zero ns h = h
-  every-drop (suc k) [] h = refl
-  every-drop (suc k) (n ∷ ns) h = every-drop k ns (both _ _ h .1)
+-- One of those that pass.
+every-at : (p : ℕ → Bool) (ns : List ℕ) (i : ℕ) → every p ns ≡ true → i < length ns → p (getD ns i 0) ≡ true
+unfolding every
+every-at p [] i h l = absurd (omega arith)
+every-at p (n ∷ ns) zero h l = both _ _ h .0
+every-at p (n ∷ ns) (suc i) h l = every-at p ns i (both _ _ h .1) (omega arith)
 
 -- Behind what stands at a place.
 behind : (bytes : List ℕ) (at : ℕ) (f g : List ℕ) → drop at bytes ≡ f ++ g → drop (at + length f) bytes ≡ g
@@ -74,7 +61,7 @@ module _ (top before after : ℕ) (small : top ≤ 2 ^ 64) where
   -- READ BACK.
   module _ (bytes rest ns : List ℕ) (at : ℕ) (n : length ns ≡ before + suc after) (below : all-below top ns ≡ true) where
     lead-below : getD ns before 0 < top
-    lead-below = ltb-true (getD ns before 0) top (every-at _ 0 ns before below (omega arith))
+    lead-below = ltb-true (getD ns before 0) top (every-at _ ns before below (omega arith))
 
     back-unused : getD ns before 0 ≡ 0 → all-zero ns ≡ true → drop at bytes ≡ bytes-of (0 ∷ []) ++ rest → onward (number-below top bytes at) (behind-lead bytes) ≡ got ns (at + length (bytes-of (0 ∷ [])))
     unfolding onward if_then_else_ flatMap
@@ -82,7 +69,7 @@ module _ (top before after : ℕ) (small : top ≤ 2 ^ 64) where
         let l = lead-below in
         let o : bytes-of (0 ∷ []) ≡ leb128 0 = append-nil (leb128 0) in
         let i : number-below top bytes at ≡ got 0 (at + length (leb128 0)) = below-back top bytes rest at 0 small (omega arith) (rw o at e) in
-        let r : replicate (before + suc after) 0 ≡ ns = rw n at (zeros ns h) in
+        let r : replicate (before + suc after) 0 ≡ ns = sym (rw n at (zeros ns h)) in
         rw (i, o, r)
 
     back-used : (lead : ℕ) → lead ≡ getD ns before 0 → eqb lead 0 ≡ false → drop at bytes ≡ bytes-of (lead ∷ take before ns ++ drop (suc before) ns) ++ rest → onward (number-below top bytes at) (behind-lead bytes) ≡ got ns (at + length (bytes-of (lead ∷ take before ns ++ drop (suc before) ns)))
@@ -134,7 +121,7 @@ module _ (top before after : ℕ) (small : top ≤ 2 ^ 64) where
           tidy =
               rw (← x, g)
               (join _ _ (eq-eqb _ _ (length-replicate (before + suc after) 0))
-              (join _ _ (every-zero _ (before + suc after) (lt-ltb 0 top (omega arith))) (every-zero _ (before + suc after) refl)));
+              (join _ _ (every-zero (λ m. ltb m top) (before + suc after) (lt-ltb 0 top (omega arith))) (every-zero (λ m. eqb m 0) (before + suc after) refl)));
           there = rw (← x, g, ← y, o) (rw w at (i .there));
           place = rw (← x, g, ← y, o) (rw w at (i .place));
         }
@@ -166,12 +153,12 @@ module _ (top before after : ℕ) (small : top ≤ 2 ^ 64) where
     only : slot top before after .read bytes at ≡ got ns next → Is-read (slot top before after) bytes at ns next
     unfolding slot if_then_else_ numbers
     only e =
-        let a = passed (number-below top bytes at) (behind-lead bytes) e in
+        let a = both-read (number-below top bytes at) (behind-lead bytes) e in
         let i = below-only top bytes at (a .value) (a .place) good (a .one) in
         split (eqb (a .value) 0) (λ z. only-unused (a .value) (a .place) i z (rw z at (a .two)))
         (λ z.
-        let b = passed (numbers-at top before bytes (a .place)) _ (rw z at (a .two)) in
-        let c = passed (numbers-at top after bytes (b .place)) _ (b .two) in
+        let b = both-read (numbers-at top before bytes (a .place)) _ (rw z at (a .two)) in
+        let c = both-read (numbers-at top after bytes (b .place)) _ (b .two) in
         let j = numbers-exact top before small .only bytes (b .value) (a .place) (b .place) good (b .one) in
         let k = numbers-exact top after small .only bytes (c .value) (b .place) (c .place) good (c .one) in
         only-used (a .value) (a .place) i z (b .value) (b .place) j (c .value) (c .place) k (c .two))
@@ -184,7 +171,7 @@ module _ (top before after : ℕ) (bytes ns : List ℕ) (at next : ℕ) where
   pub slot-long : slot top before after .read bytes at ≡ got ns next → length ns ≡ before + suc after
   unfolding slot if_then_else_
   slot-long e =
-      let a = passed (number-below top bytes at) _ e in
+      let a = both-read (number-below top bytes at) _ e in
       split (eqb (a .value) 0)
       (λ z.
       let f = rw z at (a .two) in
@@ -192,13 +179,28 @@ module _ (top before after : ℕ) (bytes ns : List ℕ) (at next : ℕ) where
       let x : zs ≡ ns = cc in
       rw (← x) (length-replicate (before + suc after) 0))
       (λ z.
-      let b = passed (numbers-at top before bytes (a .place)) _ (rw z at (a .two)) in
-      let c = passed (numbers-at top after bytes (b .place)) _ (b .two) in
+      let b = both-read (numbers-at top before bytes (a .place)) _ (rw z at (a .two)) in
+      let c = both-read (numbers-at top after bytes (b .place)) _ (b .two) in
       let f = c .two in
       let x : b .value ++ (a .value ∷ c .value) ≡ ns = cc in
       let n₁ = numbers-long top bytes before (a .place) (b .value) (b .place) (b .one) in
       let n₂ = numbers-long top bytes after (b .place) (c .value) (c .place) (c .one) in
       rw (← x, length-append) (omega arith))
+
+-- How many bytes it takes: at most ten a number.
+module _ (top before after : ℕ) (ns : List ℕ) where
+  fields-few : length ns ≤ before + suc after → length (slot top before after .fields ns) ≤ before + suc after
+  unfolding slot if_then_else_
+  fields-few h =
+      let t = length-take before ns in
+      let d = length-drop (suc before) ns in
+      split (eqb (getD ns before 0) 0) (λ z. rw z (omega arith)) (λ z. rw (z, length-append) (omega arith))
+
+  pub slot-few : length ns ≤ before + suc after → length (bytes-of (slot top before after .fields ns)) ≤ 10 * (before + suc after)
+  slot-few h =
+      let a = bytes-few (slot top before after .fields ns) in
+      let b = fields-few h in
+      omega arith
 
 -- SLOTS.
 module _ (top before after : ℕ) where
@@ -212,3 +214,15 @@ module _ (top before after : ℕ) where
   slots-exact zero small = numbers-exact 0 0 (omega arith)
   slots-exact (suc k) small =
       beside-exact (slot top before after) (λ _. slots top before after k) ((before + suc after) * k) (slot-exact top before after small) (λ _. slots-exact k small) (λ _. slots-width k)
+
+  pub slots-few : (k : ℕ) (ns : List ℕ) → length ns ≤ (before + suc after) * k → length (bytes-of (slots top before after k .fields ns)) ≤ 10 * ((before + suc after) * k)
+  unfolding slots numbers beside slot
+  slots-few zero ns h = let a = bytes-few ns in omega arith
+  slots-few (suc k) ns h =
+      let w = before + suc after in
+      let m : w * suc k ≡ w * k + w = rw mul-suc (omega arith) in
+      let t = length-take w ns in
+      let d = length-drop w ns in
+      let a = slot-few top before after (take w ns) (omega arith) in
+      let b = slots-few k (drop w ns) (omega arith) in
+      rw (bytes-append (slot top before after .fields (take w ns)) (slots top before after k .fields (drop w ns)), length-append) (omega arith)

@@ -1,276 +1,190 @@
 -- Loops over slots.
-use mathlib.Core.Path.{_≡_, refl, sym, ap, _∙_}
+use mathlib.Core.Path.{_≡_, sym, _∙_}
 use mathlib.Core.Bool.{Bool, true, false, not}
-use mathlib.Core.List.{List, [], _∷_, _++_, flatMap, append-assoc, append-nil}
-use Prim.Native.Nat.{ℕ, zero, suc, _+_, _*_, _-_, _^_, _≤_, _<_}
+use mathlib.Core.List.{List}
+use Prim.Native.Nat.{ℕ, suc, _+_, _*_, _-_, _≤_, _<_}
 use native.Mathlib.Nat.{mul-suc}
 use native.Mathlib.Omega.{arith}
-use lib.Dec.{ltb, eqb}
-use lib.ListN.{length, getD, take, drop, replicate, set, length-set, length-append, length-take}
-use borrow.Author.Tests.{ltb-true, lt-ltb, eqb-true, eqb-false, eq-eqb, ne-eqb}
-use Rattle.laws.specs.Bool.{if_then_else_, split, _and_, both, join}
-use Rattle.laws.specs.Every.{every}
-use Rattle.laws.specs.Splice.{splice, splice-none, splice-one, splice-more, length-splice}
-use Rattle.codec.specs.Read.{Read, got, bad, onward, tested}
-use Rattle.codec.specs.Leb.{groups, leb128, parse, number-at}
-use Rattle.codec.specs.Numbers.{bytes-of, number-below, numbers-at, all-below, part}
-use Rattle.codec.specs.Stages.{Shape, numbers, beside, all-zero}
+use lib.ListN.{length}
+use Rattle.laws.specs.Bool.{_and_, passed, stopped}
+use Rattle.laws.specs.Splice.{splice}
+use Rattle.codec.specs.declared.numbers.Place.{Place}
+use Rattle.codec.specs.Read.{Read, bad}
+use Rattle.codec.specs.Numbers.{bytes-of, part}
+use Rattle.codec.specs.Stages.{Shape, numbers, beside}
 use Rattle.codec.specs.Slots.{slot, slots}
 use Rattle.codec.specs.Stored.{place-of, Stored, Zero-from}
-use Rattle.codec.specs.Exact.{not-bad, bytes-append}
-use Rattle.codec.specs.ReadLaws.{passed}
-use Rattle.codec.specs.LebLaws.{leb-few}
-use Rattle.codec.specs.NumbersLaws.{numbers-long}
-use Rattle.codec.specs.NumbersLoops.{part-none}
-use Rattle.codec.specs.PartLaws.{part-few, getD-part, part-below, length-part, take-part, drop-part}
-use Rattle.codec.specs.Loops.{Read-first, Bytes-first, zeros-there}
+use Rattle.codec.specs.StoredLaws.{Got}
+use Rattle.codec.specs.SlotsLaws.{slot-long, slots-width}
+use Rattle.codec.specs.SlotSteps.{here-few}
+use Rattle.codec.specs.ShapesLoops.{Reading-shapes, reading-start, reading-long, reading-room, reading-bad, reading-more, reading-place, reading-stored, neat, neat-next, neat-none, Writing-shapes, writing-start, writing-long, writing-room, writing-more, writing-place, writing-end, Counting-shapes, counting-more, counting-end}
 
--- WHERE A LOOP STANDS: the slots from the nth on begin at i.
-pub record Ahead (before after k end i n : ℕ) : Type 0 where
-  pub is : i + (before + suc after) * (k - n) ≡ end
+-- THE SLOTS FROM THE NTH ON: the nth, and those behind it; or none.
+abbrev left : (top before after k n : ℕ) → Shape
+left top before after k n = slots top before after (k - n)
 
-pub ahead-start : (before after k first : ℕ) → Ahead before after k (first + (before + suc after) * k) first 0
-ahead-start before after k first = let e : k - 0 ≡ k = omega arith in record { is = rw e }
+module _ (top before after : ℕ) {k n : ℕ} where
+  left-next : n < k → left top before after k n ≡ beside (slot top before after) (λ _. left top before after k (n + 1)) ((before + suc after) * (k - (n + 1)))
+  unfolding slots
+  left-next h =
+      let e : k - n ≡ suc (k - (n + 1)) = omega arith in
+      rw e
 
-module _ {before after k end i n : ℕ} (inv : Ahead before after k end i n) where
-  pub ahead-end : k ≤ n → i ≡ end
-  ahead-end h =
+  left-none : k ≤ n → left top before after k n ≡ numbers 0 0
+  unfolding slots
+  left-none h =
       let e : k - n ≡ 0 = omega arith in
-      let a = rw e at (inv .is) in
+      rw e
+
+-- Where the nth begins in the code is where the one before it ends.
+next-place : (i before after : ℕ) → i + (before + 1 + after) ≡ i + (before + suc after)
+next-place i before after = omega arith
+
+-- There is room for all of them in a list.
+pub record Room (before after k i n size : ℕ) : Type 0 where
+  pub is : i + (before + suc after) * (k - n) ≤ size
+
+room-start : {before after k i size : ℕ} → i + (before + suc after) * k ≤ size → Room before after k i 0 size
+room-start {before} {after} {k} {i} {size} h =
+    let e : k - 0 ≡ k = omega arith in
+    record { is = rw e h }
+
+module _ {before after k i n size : ℕ} (inv : Room before after k i n size) (h : n < k) where
+  next-is : i + (before + suc after) + (before + suc after) * (k - (n + 1)) ≤ size
+  next-is =
+      let e : k - n ≡ suc (k - (n + 1)) = omega arith in
+      let a = rw (e, mul-suc) at (inv .is) in
       omega arith
 
+  pub room-here : i + (before + suc after) ≤ size
+  room-here = let a = next-is in omega arith
+
+  room-more : Room before after k (i + (before + 1 + after)) (n + 1) size
+  room-more = record { is = rw (next-place i before after) next-is }
+
+-- THE LOOP THAT READS.
+pub record Reading-slots (top before after k : ℕ) (bytes : List ℕ) (whole : Read (List ℕ)) (list₀ : List ℕ) (first at i n : ℕ) (list : List ℕ) : Type 0 where
+  pub reading : Reading-shapes bytes whole list₀ first (left top before after k n) at i list
+
+pub read-start : (top before after k : ℕ) (bytes list : List ℕ) (first at : ℕ) → first + (before + suc after) * k ≤ length list → Zero-from first list → Reading-slots top before after k bytes (slots top before after k .read bytes at) list first at first 0 list
+read-start top before after k bytes list first at room z =
+    let e : k - 0 ≡ k = omega arith in
+    record { reading = rw e (reading-start bytes list first (slots top before after k) at (rw (slots-width top before after k) room) z) }
+
+module _ {top before after k : ℕ} {bytes : List ℕ} {whole : Read (List ℕ)} {list₀ : List ℕ} {first at i n : ℕ} {list : List ℕ} (inv : Reading-slots top before after k bytes whole list₀ first at i n list) where
+  pub read-long : length list ≡ length list₀
+  read-long = reading-long (inv .reading)
+
+  pub read-zero : Zero-from i list
+  read-zero = inv .reading .blank
+
   module _ (h : n < k) where
-    next-is : i + (before + suc after) + (before + suc after) * (k - (n + 1)) ≡ end
-    next-is =
-        let e : k - n ≡ suc (k - (n + 1)) = omega arith in
-        let a = rw (e, mul-suc) at (inv .is) in
+    pub read-room : i + (before + suc after) ≤ length list
+    unfolding slot
+    read-room = reading-room (inv .reading) (slot top before after) _ _ (left-next top before after h)
+
+    pub read-bad : slot top before after .read bytes at ≡ bad → whole ≡ bad
+    read-bad e = reading-bad (inv .reading) (slot top before after) _ _ (left-next top before after h) e
+
+    pub read-more : {next : ℕ} {list′ : List ℕ} → Got (slot top before after .read bytes at) next → Stored (slot top before after .read bytes at) list i list′ → Reading-slots top before after k bytes whole list₀ first next (i + (before + 1 + after)) (n + 1) list′
+    unfolding slot
+    read-more {next} {list′} g s =
+        let n₁ = slot-long top before after bytes (g .value) at next (g .is) in
+        record { reading = rw (next-place i before after) (reading-more (inv .reading) (slot top before after) _ _ (left-next top before after h) (g .value) next list′ (g .is) n₁ (slots-width top before after (k - (n + 1))) s) }
+
+  module _ (h : k ≤ n) where
+    pub read-place : Place.At at ≡ place-of whole
+    read-place = reading-place (inv .reading) (left-none top before after h)
+
+    pub read-stored : Stored whole list₀ first list
+    read-stored = reading-stored (inv .reading) (left-none top before after h)
+
+-- THE LOOP THAT TESTS.
+pub record Testing-slots (top before after k : ℕ) (xs : List ℕ) (whole : Bool) (i n : ℕ) : Type 0 where
+  pub rest : neat xs (left top before after k n) i ≡ whole
+  pub room : Room before after k i n (length xs)
+
+pub test-start : (top before after k : ℕ) (xs : List ℕ) (i : ℕ) → i + (before + suc after) * k ≤ length xs → Testing-slots top before after k xs (slots top before after k .tidy (part xs i (i + (before + suc after) * k))) i 0
+test-start top before after k xs i h =
+    let e : k - 0 ≡ k = omega arith in
+    record { rest = rw (e, slots-width top before after k); room = room-start h }
+
+module _ {top before after k : ℕ} {xs : List ℕ} {whole : Bool} {i n : ℕ} (inv : Testing-slots top before after k xs whole i n) where
+  module _ (h : n < k) {b : Bool} (e : b ≡ slot top before after .tidy (part xs i (i + (before + suc after)))) where
+    next : (slot top before after .tidy (part xs i (i + (before + suc after))) and neat xs (left top before after k (n + 1)) (i + (before + suc after))) ≡ whole
+    unfolding slot
+    next = sym (neat-next xs i (left top before after k n) (slot top before after) _ _ (left-next top before after h) (slots-width top before after (k - (n + 1)))) ∙ inv .rest
+
+    pub test-stop : not b ≡ true → false ≡ whole
+    test-stop t = stopped e t _ ∙ next
+
+    pub test-more : not b ≡ false → Testing-slots top before after k xs whole (i + (before + 1 + after)) (n + 1)
+    test-more t = record { rest = rw (next-place i before after) (sym (passed e t _) ∙ next); room = room-more (inv .room) h }
+
+  pub test-end : k ≤ n → true ≡ whole
+  test-end h = sym (neat-none xs i (left top before after k n) (left-none top before after h)) ∙ inv .rest
+
+-- THE LOOP THAT COUNTS.
+pub record Counting-slots (top before after k : ℕ) (xs whole : List ℕ) (i n size : ℕ) : Type 0 where
+  pub counting : Counting-shapes whole xs (left top before after k n) i size
+  pub room : Room before after k i n (length xs)
+
+pub count-start : (top before after k : ℕ) (xs : List ℕ) (i : ℕ) → i + (before + suc after) * k ≤ length xs → Counting-slots top before after k xs (bytes-of (slots top before after k .fields (part xs i (i + (before + suc after) * k)))) i 0 0
+count-start top before after k xs i h =
+    let e : k - 0 ≡ k = omega arith in
+    record { counting = record { left = rw (e, slots-width top before after k) (omega arith); few = omega arith }; room = room-start h }
+
+module _ {top before after k : ℕ} {xs whole : List ℕ} {i n size : ℕ} (inv : Counting-slots top before after k xs whole i n size) where
+  module _ (h : n < k) {s : ℕ} (e : s ≡ length (bytes-of (slot top before after .fields (part xs i (i + (before + suc after)))))) where
+    pub count-few : size + s ≤ 10 * (i + (before + suc after))
+    count-few =
+        let f = inv .counting .few in
+        let t = here-few top before after xs i (room-here (inv .room) h) in
         omega arith
 
-    pub ahead-room : i + (before + suc after) ≤ end
-    ahead-room = let a = next-is in omega arith
-
-    pub ahead-more : Ahead before after k end (i + (before + 1 + after)) (n + 1)
-    ahead-more =
-        let e : i + (before + 1 + after) ≡ i + (before + suc after) = omega arith in
-        record { is = rw e next-is }
-
--- THE SLOTS FROM THE NTH ON: the nth, and those behind it.
-module _ (top before after : ℕ) {k n : ℕ} (h : n < k) where
-  one-more : k - n ≡ suc (k - (n + 1))
-  one-more = omega arith
-
-  pub slots-read : (bytes : List ℕ) (at : ℕ) → Read-first (slots top before after (k - n) .read bytes at) (slot top before after .read bytes at) (λ p. slots top before after (k - (n + 1)) .read bytes p)
-  unfolding slots beside
-  slots-read bytes at = record { is = rw one-more }
-
-module _ (top before after : ℕ) {k end i n : ℕ} (xs : List ℕ) (inv : Ahead before after k end i n) (room : end ≤ length xs) (h : n < k) where
-  next-part : drop (before + suc after) (part xs i end) ≡ part xs (i + (before + 1 + after)) end
-  next-part =
-      let e : i + (before + 1 + after) ≡ i + (before + suc after) = omega arith in
-      rw e (drop-part xs i end room (before + suc after) (ahead-room inv h))
-
-  pub slots-fields : Bytes-first (bytes-of (slots top before after (k - n) .fields (part xs i end))) (bytes-of (slot top before after .fields (part xs i (i + (before + suc after))))) (bytes-of (slots top before after (k - (n + 1)) .fields (part xs (i + (before + 1 + after)) end)))
-  unfolding slots beside slot
-  slots-fields =
-      let e = one-more top before after h in
-      let w = take-part xs i end room (before + suc after) (ahead-room inv h) in
-      record { is = rw (e, w, next-part) (bytes-append _ _) }
-
-  pub slots-tidy : slots top before after (k - n) .tidy (part xs i end) ≡ (slot top before after .tidy (part xs i (i + (before + suc after))) and slots top before after (k - (n + 1)) .tidy (part xs (i + (before + 1 + after)) end))
-  unfolding slots beside slot
-  slots-tidy =
-      let e = one-more top before after h in
-      let w = take-part xs i end room (before + suc after) (ahead-room inv h) in
-      rw (e, w, next-part)
-
--- Behind the last.
-module _ (top before after : ℕ) {k n : ℕ} (h : k ≤ n) where
-  none-more : k - n ≡ 0
-  none-more = omega arith
-
-  pub no-read : (bytes : List ℕ) (at : ℕ) → slots top before after (k - n) .read bytes at ≡ got [] at
-  unfolding slots numbers numbers-at
-  no-read bytes at = rw none-more
-
-module _ (top before after : ℕ) {k end i n : ℕ} (xs : List ℕ) (inv : Ahead before after k end i n) (h : k ≤ n) where
-  last-part : part xs i end ≡ []
-  last-part = let e = ahead-end inv h in part-none xs i end (omega arith)
-
-  pub no-fields : bytes-of (slots top before after (k - n) .fields (part xs i end)) ≡ []
-  unfolding slots numbers flatMap
-  no-fields = rw (none-more top before after h, last-part)
-
-  pub no-tidy : slots top before after (k - n) .tidy (part xs i end) ≡ true
-  unfolding slots numbers every _and_
-  no-tidy = rw (none-more top before after h, last-part)
-
--- A number that is read is of 64 bits.
-pub number-small : (bytes : List ℕ) (at : ℕ) {n next : ℕ} → number-at bytes at ≡ got n next → n < 2 ^ 64
-unfolding number-at if_then_else_
-number-small bytes at {n} {next} e =
-    let a = passed (parse 10 (drop at bytes)) _ e in
-    split (ltb (a .value) (2 ^ 64))
-    (λ t.
-    let f = rw t at (a .two) in
-    let x : a .value ≡ n = cc in
-    rw (← x) (ltb-true (a .value) (2 ^ 64) t))
-    (λ t. not-bad (rw t at (a .two)))
-
--- The place doesn't hang on what is made of the numbers.
-same-place : (r : Read (List ℕ)) (f : List ℕ → List ℕ) → place-of (onward r (λ ns p. got (f ns) p)) ≡ place-of r
-unfolding onward place-of
-same-place (got ns p) f = refl
-same-place bad f = refl
-
--- ONE SLOT READ, behind its lead.
-module _ (top before after : ℕ) (bytes : List ℕ) (at : ℕ) where
-  pub no-lead : number-at bytes at ≡ bad → slot top before after .read bytes at ≡ bad
-  unfolding slot tested onward
-  no-lead e = rw e
-
-  module _ (lead p : ℕ) (there : number-at bytes at ≡ got lead p) (low : lead < top) where
-    lead-read : number-below top bytes at ≡ got lead p
-    unfolding tested onward if_then_else_
-    lead-read = rw (there, lt-ltb lead top low)
-
-    pub unused-read : lead ≡ 0 → slot top before after .read bytes at ≡ got (replicate (before + suc after) 0) p
-    unfolding slot onward if_then_else_
-    unused-read z = rw (lead-read, eq-eqb lead 0 z)
-
-    pub unused-stored : {list : List ℕ} {first : ℕ} → lead ≡ 0 → Zero-from first list → first + (before + suc after) ≤ length list → Stored (slot top before after .read bytes at) list first list
-    unused-stored {list} {first} z h room =
+    pub count-more : Counting-slots top before after k xs whole (i + (before + 1 + after)) (n + 1) (size + s)
+    unfolding slot
+    count-more =
+        let t = here-few top before after xs i (room-here (inv .room) h) in
         record {
-          is = λ ns next e.
-              let zs : List ℕ = replicate (before + suc after) 0 in
-              let f = sym (unused-read z) ∙ e in
-              let x : zs ≡ ns = cc in
-              rw (← x) (zeros-there list first (before + suc after) h room);
-          long = refl;
+          counting = rw (next-place i before after) (counting-more (inv .counting) (slot top before after) _ _ (left-next top before after h) (slots-width top before after (k - (n + 1))) e (omega arith));
+          room = room-more (inv .room) h;
         }
 
-    module _ (used : lead ≡ 0 → ⊥) where
-      used-read : slot top before after .read bytes at ≡ onward (numbers-at top before bytes p) (λ xs q. onward (numbers-at top after bytes q) (λ ys r. got (xs ++ (lead ∷ ys)) r))
-      unfolding slot onward if_then_else_
-      used-read = rw (lead-read, ne-eqb lead 0 used)
+  pub count-end : k ≤ n → size ≡ length whole
+  count-end h = counting-end (inv .counting) (left-none top before after h)
 
-      pub used-bad : numbers-at top before bytes p ≡ bad → slot top before after .read bytes at ≡ bad
-      unfolding onward
-      used-bad e = used-read ∙ rw e
+-- THE LOOP THAT WRITES.
+pub record Writing-slots (top before after k : ℕ) (xs whole list₀ : List ℕ) (at i n place : ℕ) (list : List ℕ) : Type 0 where
+  pub writing : Writing-shapes whole list₀ at xs (left top before after k n) i place list
+  pub room : Room before after k i n (length xs)
 
-      module _ (xs : List ℕ) (q : ℕ) (front : numbers-at top before bytes p ≡ got xs q) where
-        used-rest : slot top before after .read bytes at ≡ onward (numbers-at top after bytes q) (λ ys r. got (xs ++ (lead ∷ ys)) r)
-        unfolding onward
-        used-rest = used-read ∙ rw front
+pub write-start : (top before after k : ℕ) (xs list : List ℕ) (at i : ℕ) → i + (before + suc after) * k ≤ length xs → at + length (bytes-of (slots top before after k .fields (part xs i (i + (before + suc after) * k)))) ≤ length list → Writing-slots top before after k xs (bytes-of (slots top before after k .fields (part xs i (i + (before + suc after) * k)))) list at i 0 at list
+write-start top before after k xs list at i h f =
+    let e : k - 0 ≡ k = omega arith in
+    let w = slots-width top before after k in
+    record { writing = rw (e, ← w) (writing-start list at xs (slots top before after k) i (rw w f)); room = room-start h }
 
-        pub used-place : place-of (numbers-at top after bytes q) ≡ place-of (slot top before after .read bytes at)
-        used-place = rw used-rest (sym (same-place (numbers-at top after bytes q) (λ ys. xs ++ (lead ∷ ys))))
+module _ {top before after k : ℕ} {xs whole list₀ : List ℕ} {at i n place : ℕ} {list : List ℕ} (inv : Writing-slots top before after k xs whole list₀ at i n place list) where
+  pub write-long : length list ≡ length list₀
+  write-long = writing-long (inv .writing)
 
-        pub used-stored : {list list′ : List ℕ} (first : ℕ) → first + (before + suc after) ≤ length list → Stored (numbers-at top after bytes q) (set (splice list first xs) (first + before) lead) (first + before + 1) list′ → Stored (slot top before after .read bytes at) list first list′
-        used-stored {list} {list′} first room s =
-            let n = numbers-long top bytes before p xs q front in
-            let l₁ = splice list first xs in
-            let m₁ : length l₁ ≡ length list = length-splice list first xs (omega arith) in
-            let one : set l₁ (first + before) lead ≡ splice l₁ (first + before) (lead ∷ []) = splice-one l₁ (first + before) lead (omega arith) in
-            let l₂ = set l₁ (first + before) lead in
-            let two : l₂ ≡ splice list first (xs ++ (lead ∷ [])) = one ∙ splice-more list first xs (lead ∷ []) (first + before) (omega arith) (omega arith) in
-            record {
-              is = λ ns next e.
-                  let c = passed (numbers-at top after bytes q) (λ ys r. got (xs ++ (lead ∷ ys)) r) (sym used-rest ∙ e) in
-                  let f = c .two in
-                  let x : xs ++ (lead ∷ c .value) ≡ ns = cc in
-                  let k = numbers-long top bytes after q (c .value) (c .place) (c .one) in
-                  let a = length-append xs (lead ∷ []) in
-                  let g = s .is (c .value) (c .place) (c .one) in
-                  g ∙ ap (λ (l : List ℕ). splice l (first + before + 1) (c .value)) two ∙ splice-more list first (xs ++ (lead ∷ [])) (c .value) (first + before + 1) (omega arith) (omega arith) ∙ ap (splice list first) (append-assoc xs (lead ∷ []) (c .value) ∙ x);
-              long = s .long ∙ length-set l₁ (first + before) lead ∙ m₁;
-            }
+  module _ (h : n < k) where
+    pub write-room : place + length (bytes-of (slot top before after .fields (part xs i (i + (before + suc after))))) ≤ length list
+    unfolding slot
+    write-room = writing-room (inv .writing) (slot top before after) _ _ (left-next top before after h) (slots-width top before after (k - (n + 1)))
 
--- ONE SLOT OF A LIST.
-module _ (top before after : ℕ) (xs : List ℕ) (first : ℕ) (room : first + (before + suc after) ≤ length xs) where
-  abbrev here : List ℕ
-  here = part xs first (first + (before + suc after))
+    pub write-more : {p : ℕ} {list′ : List ℕ} → p ≡ place + length (bytes-of (slot top before after .fields (part xs i (i + (before + suc after))))) → list′ ≡ splice list place (bytes-of (slot top before after .fields (part xs i (i + (before + suc after))))) → Writing-slots top before after k xs whole list₀ at (i + (before + 1 + after)) (n + 1) p list′
+    unfolding slot
+    write-more e f =
+        record {
+          writing = rw (next-place i before after) (writing-more (inv .writing) (slot top before after) _ _ (left-next top before after h) (slots-width top before after (k - (n + 1))) e f);
+          room = room-more (inv .room) h;
+        }
 
-  abbrev front : List ℕ
-  front = part xs first (first + before)
+  module _ (h : k ≤ n) where
+    pub write-place : place ≡ at + length whole
+    write-place = writing-place (inv .writing) (left-none top before after h)
 
-  abbrev back : List ℕ
-  back = part xs (first + before + 1) (first + before + 1 + after)
-
-  abbrev lead : ℕ
-  lead = getD xs (first + before) 0
-
-  lead-here : getD here before 0 ≡ lead
-  lead-here = getD-part xs first (first + (before + suc after)) before 0 (omega arith)
-
-  front-here : take before here ≡ front
-  front-here = take-part xs first (first + (before + suc after)) room before (omega arith)
-
-  back-here : drop (suc before) here ≡ back
-  back-here =
-      let e : first + suc before ≡ first + before + 1 = omega arith in
-      let f : first + (before + suc after) ≡ first + before + 1 + after = omega arith in
-      drop-part xs first (first + (before + suc after)) room (suc before) (omega arith) ∙ rw (e, f)
-
-  -- Its bytes: those of the lead, and the others.
-  abbrev behind : List ℕ
-  behind = if eqb lead 0 then [] else bytes-of front ++ bytes-of back
-
-  pub lead-first : Bytes-first (bytes-of (slot top before after .fields here)) (leb128 lead) behind
-  unfolding slot if_then_else_ flatMap
-  lead-first =
-      record {
-        is =
-            rw lead-here
-            (split (eqb lead 0) (λ z. let e = eqb-true lead 0 z in rw (z, e)) (λ z. rw (z, front-here, back-here, bytes-append front back)));
-      }
-
-  pub unused-none : lead ≡ 0 → behind ≡ []
-  unfolding if_then_else_
-  unused-none z = rw (eq-eqb lead 0 z)
-
-  module _ (used : lead ≡ 0 → ⊥) where
-    pub front-first : Bytes-first behind (bytes-of front) (bytes-of back)
-    unfolding if_then_else_
-    front-first = record { is = rw (ne-eqb lead 0 used) }
-
-  pub back-first : Bytes-first (bytes-of back) (bytes-of back) []
-  back-first = record { is = sym (append-nil (bytes-of back)) }
-
-  -- How many they are.
-  pub unused-size : lead ≡ 0 → 1 ≡ length (bytes-of (slot top before after .fields here))
-  unfolding leb128 groups if_then_else_
-  unused-size z =
-      let e = lead-first .is in
-      rw (e, unused-none z, append-nil, z)
-
-  pub used-size : (lead ≡ 0 → ⊥) → length (leb128 lead) + length (bytes-of front) + length (bytes-of back) ≡ length (bytes-of (slot top before after .fields here))
-  used-size used =
-      let e = lead-first .is in
-      let f = front-first used .is in
-      rw (e, f, length-append, length-append) (omega arith)
-
-  pub slot-few : length (bytes-of (slot top before after .fields here)) ≤ 10 * (before + suc after)
-  slot-few =
-      let l = leb-few lead in
-      let f = part-few xs first before in
-      let b = part-few xs (first + before + 1) after in
-      split (eqb lead 0)
-      (λ z. let s = unused-size (eqb-true lead 0 z) in omega arith)
-      (λ z. let s = used-size (eqb-false lead 0 z) in omega arith)
-
-  -- Whether it is tidy.
-  module _ (each : (i : ℕ) → getD xs i 0 < top) where
-    long-here : length here ≡ before + suc after
-    long-here = length-part xs first (first + (before + suc after)) room ∙ omega arith
-
-    tidy-here : slot top before after .tidy here ≡ (if eqb lead 0 then all-zero here else true)
-    unfolding slot _and_
-    tidy-here = rw (eq-eqb _ _ long-here, part-below xs first top (first + (before + suc after)) each, lead-here)
-
-    pub unused-tidy : lead ≡ 0 → slot top before after .tidy here ≡ all-zero here
-    unfolding if_then_else_
-    unused-tidy z = tidy-here ∙ rw (eq-eqb lead 0 z)
-
-    pub used-tidy : (lead ≡ 0 → ⊥) → slot top before after .tidy here ≡ true
-    unfolding if_then_else_
-    used-tidy used = tidy-here ∙ rw (ne-eqb lead 0 used)
+    pub write-end : list ≡ splice list₀ at whole
+    write-end = writing-end (inv .writing) (left-none top before after h)

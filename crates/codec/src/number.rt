@@ -108,7 +108,7 @@ impl<'a> Reader<'a> {
 
 // The field at a place: a reader is set there and takes it.
 pub fn field(bytes: &[u8], at: usize) -> Number
-    ensures { λ r. ⌜ r ≡ number-of (number-at (now (bytes .entry)) at) ⌝ }
+    ensures { λ number. ⌜ number ≡ number-of (number-at (now (bytes .entry)) at) ⌝ }
 {
     Reader::new(bytes, at).number()
 }

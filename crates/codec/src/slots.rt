@@ -149,11 +149,11 @@ fn write_slot(
 {
     let lead = first + before;
     let place = write_number(out, at, xs[lead]);
-    if xs[lead] == 0 {
-        return place;
+    if 0 < xs[lead] {
+        let behind = write_longs(out, place, xs, first, lead);
+        return write_longs(out, behind, xs, lead + 1, lead + 1 + after);
     }
-    let behind = write_longs(out, place, xs, first, lead);
-    write_longs(out, behind, xs, lead + 1, lead + 1 + after)
+    place
 }
 
 // The bytes of slots.

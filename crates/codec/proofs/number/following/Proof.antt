@@ -7,9 +7,6 @@ use Rattle.codec.specs.GroupsLaws.{Following, following-start, following
 use Rattle.codec.specs.StoredLaws.{bad-number, got-number}
 use Rattle.codec.proofs.number.following.Statement.{statement}
 use Rattle.codec.proofs.number.following.Tie as tie
-use Rattle.codec.proofs.number.following.Reads as reads
-use Rattle.codec.proofs.number.following.Lts as lts
-use Rattle.codec.proofs.number.wide.Reads as wide-reads
 
 abbrev Inv-loop : tie.InvT-loop
 Inv-loop bytes start low value₀ scale₀ at₀ i₀ value scale at i = Following bytes (followed low bytes start) value scale at i

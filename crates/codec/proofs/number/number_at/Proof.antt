@@ -6,10 +6,6 @@ use Rattle.codec.specs.StoredLaws.{bad-number, got-number}
 use borrow.Author.Needs.{needs}
 use Rattle.codec.proofs.number.number_at.Statement.{statement}
 use Rattle.codec.proofs.number.number_at.Tie as tie
-use Rattle.codec.proofs.number.number_at.Reads as reads
-use Rattle.codec.proofs.number.number_at.Lts as lts
-use Rattle.codec.proofs.number.following.Reads as following-reads
-use Rattle.codec.proofs.number.wide.Reads as wide-reads
 
 returns : tie.Need-returns
 returns c = bad-number (first-cut _ _ (c .if1 .taken))

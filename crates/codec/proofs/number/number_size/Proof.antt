@@ -3,8 +3,6 @@ use borrow.Author.Needs.{needs}
 use Rattle.codec.specs.GroupsLaws.{Counting, counting-start, counting-more, counting-end}
 use Rattle.codec.proofs.number.number_size.Statement.{statement}
 use Rattle.codec.proofs.number.number_size.Tie as tie
-use Rattle.codec.proofs.number.number_size.Reads as reads
-use Rattle.codec.proofs.number.number_size.Lts as lts
 
 abbrev Inv-loop : tie.InvT-loop
 Inv-loop n size₀ rest₀ size rest = Counting n size rest

@@ -8,8 +8,6 @@ use Rattle.codec.specs.Leb.{leb128}
 use Rattle.codec.specs.GroupsLaws.{Writing, writing-start, writing-more, writing-below, writing-room, writing-last, writing-end}
 use Rattle.codec.proofs.number.write_number.Statement.{statement}
 use Rattle.codec.proofs.number.write_number.Tie as tie
-use Rattle.codec.proofs.number.write_number.Reads as reads
-use Rattle.codec.proofs.number.write_number.Lts as lts
 
 abbrev Inv-loop : tie.InvT-loop
 Inv-loop out₀ at n place₀ rest₀ out place rest = Writing (splice out₀ at (leb128 n)) (at + length (leb128 n)) out place rest

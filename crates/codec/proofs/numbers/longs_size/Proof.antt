@@ -4,9 +4,6 @@ use borrow.Author.Needs.{needs}
 use Rattle.codec.specs.NumbersLoops.{Sizing, sizing-start, sizing-more, sizing-end}
 use Rattle.codec.proofs.numbers.longs_size.Statement.{statement}
 use Rattle.codec.proofs.numbers.longs_size.Tie as tie
-use Rattle.codec.proofs.numbers.longs_size.Reads as reads
-use Rattle.codec.proofs.numbers.longs_size.Lts as lts
-use Rattle.codec.proofs.number.number_size.Reads as number-size-reads
 
 abbrev Inv-loop : tie.InvT-loop
 Inv-loop xs first end size₀ i₀ size i = Sizing xs first end i size

@@ -7,10 +7,6 @@ use Rattle.codec.specs.Leb.{leb128}
 use Rattle.codec.specs.NumbersLoops.{Sizing, sizing-start, sizing-more, sizing-end}
 use Rattle.codec.proofs.numbers.numbers_size.Statement.{statement}
 use Rattle.codec.proofs.numbers.numbers_size.Tie as tie
-use Rattle.codec.proofs.numbers.numbers_size.Reads as reads
-use Rattle.codec.proofs.numbers.numbers_size.Lts as lts
-use Rattle.codec.proofs.number.number_size.Reads as number-size-reads
-use Rattle.codec.proofs.numbers.wide.Reads as wide-reads
 
 abbrev Inv-loop : tie.InvT-loop
 Inv-loop xs first end size₀ i₀ size i = Sizing xs first end i size

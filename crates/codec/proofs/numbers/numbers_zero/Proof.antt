@@ -8,8 +8,6 @@ use Rattle.codec.specs.Stages.{all-zero}
 use Rattle.codec.specs.NumbersLoops.{part-span}
 use Rattle.codec.proofs.numbers.numbers_zero.Statement.{statement}
 use Rattle.codec.proofs.numbers.numbers_zero.Tie as tie
-use Rattle.codec.proofs.numbers.numbers_zero.Reads as reads
-use Rattle.codec.proofs.numbers.numbers_zero.Lts as lts
 
 abbrev Inv-loop : tie.InvT-loop
 Inv-loop xs first end dirt₀ i₀ dirt i = Dirt (λ j. getD xs j 0) end i dirt (all-zero (part xs first end))

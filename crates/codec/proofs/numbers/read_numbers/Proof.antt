@@ -6,9 +6,6 @@ use Rattle.codec.specs.StoredLaws.{value-got, value-bad, bad-place, bad-
 use Rattle.codec.specs.NumbersLoops.{Reading, reading-start, reading-long, reading-bad, reading-large, reading-more, reading-end}
 use Rattle.codec.proofs.numbers.read_numbers.Statement.{statement}
 use Rattle.codec.proofs.numbers.read_numbers.Tie as tie
-use Rattle.codec.proofs.numbers.read_numbers.Reads as reads
-use Rattle.codec.proofs.numbers.read_numbers.Lts as lts
-use Rattle.codec.proofs.number.field.Reads as field-reads
 
 abbrev Inv-loop : tie.InvT-loop
 Inv-loop bytes start out₀ first end at₀ i₀ out at i = Reading (2 ^ 32) bytes (numbers-at (2 ^ 32) (end - first) bytes start) out₀ first end at i out

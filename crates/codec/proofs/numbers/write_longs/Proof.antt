@@ -5,9 +5,6 @@ use borrow.Author.Needs.{needs}
 use Rattle.codec.specs.NumbersLoops.{Appending, appending-start, appending-long, appending-room, appending-more, appending-place, appending-end}
 use Rattle.codec.proofs.numbers.write_longs.Statement.{statement}
 use Rattle.codec.proofs.numbers.write_longs.Tie as tie
-use Rattle.codec.proofs.numbers.write_longs.Reads as reads
-use Rattle.codec.proofs.numbers.write_longs.Lts as lts
-use Rattle.codec.proofs.number.write_number.Reads as write-number-reads
 
 abbrev Inv-loop : tie.InvT-loop
 Inv-loop out₀ at xs first end place₀ i₀ out place i = Appending out₀ at xs first end i place out

@@ -7,10 +7,6 @@ use Rattle.codec.specs.Leb.{leb128}
 use Rattle.codec.specs.NumbersLoops.{Appending, appending-start, appending-long, appending-room, appending-more, appending-place, appending-end}
 use Rattle.codec.proofs.numbers.write_numbers.Statement.{statement}
 use Rattle.codec.proofs.numbers.write_numbers.Tie as tie
-use Rattle.codec.proofs.numbers.write_numbers.Reads as reads
-use Rattle.codec.proofs.numbers.write_numbers.Lts as lts
-use Rattle.codec.proofs.number.write_number.Reads as write-number-reads
-use Rattle.codec.proofs.numbers.wide.Reads as wide-reads
 
 abbrev Inv-loop : tie.InvT-loop
 Inv-loop out₀ at xs first end place₀ i₀ out place i = Appending out₀ at xs first end i place out

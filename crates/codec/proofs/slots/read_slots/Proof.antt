@@ -1,120 +1,66 @@
-use mathlib.Core.Path.{_≡_, refl, sym, ap, _∙_}
-use Prim.Native.Nat.{ℕ, suc, _+_, _*_, _-_, _^_}
+use mathlib.Core.Path.{_∙_}
+use Prim.Native.Nat.{_-_, _^_}
 use native.Mathlib.Omega.{arith}
 use borrow.Author.Needs.{needs}
 use Rattle.codec.specs.Slots.{slots}
-use Rattle.codec.specs.StoredLaws.{at-got, at-bad, bad-place, bad-stored, got-place, got-stored}
-use Rattle.codec.specs.SlotsLaws.{slot-long}
-use Rattle.codec.specs.Loops.{Reading, reading-start, reading-long, reading-zero, reading-bad, reading-more, reading-end}
-use Rattle.codec.specs.SlotsLoops.{Ahead, ahead-start, ahead-room, ahead-more, slots-read, no-read}
+use Rattle.codec.specs.StoredLaws.{at-got, at-bad, bad-place, bad-stored}
+use Rattle.codec.specs.SlotsLoops.{Reading-slots, read-start, read-long, read-zero, read-room, read-bad, read-more, read-place, read-stored}
 use Rattle.codec.proofs.slots.read_slots.Statement.{statement}
 use Rattle.codec.proofs.slots.read_slots.Tie as tie
-use Rattle.codec.proofs.slots.read_slots.Reads as reads
-use Rattle.codec.proofs.slots.read_slots.Lts as lts
-use Rattle.codec.proofs.slots.read_slot.Reads as read-slot-reads
 
 abbrev Inv-loop : tie.InvT-loop
-Inv-loop bytes start out₀ first before after k at₀ i₀ n₀ out at i n =
-    Reading (slots (2 ^ 64) before after (k - n) .read bytes at) (slots (2 ^ 64) before after k .read bytes start) out₀ first i out × Ahead before after k (first + (before + suc after) * k) i n
+Inv-loop bytes start out₀ first before after k at₀ i₀ n₀ out at i n = Reading-slots (2 ^ 64) before after k bytes (slots (2 ^ 64) before after k .read bytes start) out₀ first at i n out
 
 abbrev μ-loop : tie.MeasureT-loop
 μ-loop bytes start out₀ first before after k at₀ i₀ n₀ out at i n = k - n
 
--- src/slots.rt:67:5
 loop-holds : tie.Need-loop-holds Inv-loop μ-loop
 loop-holds c =
     let s = c .before .before in
     let a = s .args in
-    let e : a .k - 0 ≡ a .k = omega arith in
-    (reading-start (rw e) (omega (arith, s .pre .0)), ahead-start (a .before) (a .after) (a .k) (a .first))
+    read-start (2 ^ 64) (a .before) (a .after) (a .k) (a .bytes .now) (a .out .now) (a .first) (a .start) (s .pre .0) (s .pre .1)
 
--- src/slots.rt:68:13
 read-slot-requires : tie.Need-read-slot-requires Inv-loop μ-loop
-read-slot-requires c κs =
-    let c1 = c .before in
-    let i = c1 .before .loop .inv in
-    let s = c1 .before .before .before .before in
-    let r = ahead-room (i .1) (c1 .loop-test .taken) in
-    (omega (arith, r, reading-long (i .0), s .pre .0), reading-zero (i .0) (s .pre .1))
+read-slot-requires c κs = (read-room (c .before .before .loop .inv) (c .before .loop-test .taken), read-zero (c .before .before .loop .inv))
 
--- src/slots.rt:69:23
-enum-known-place : tie.Need-enum-known-place Inv-loop μ-loop
-enum-known-place c = search needs
-
--- src/slots.rt:70:13
-enum-told : tie.Need-enum-told Inv-loop μ-loop
-enum-told c = search needs
-
--- src/slots.rt:70:13
 same-length : tie.Need-same-length Inv-loop μ-loop
 same-length c =
-    let i = c .before .before .before .before .before .before .before .loop .inv in
-    c .before .before .before .before .read-slot .ensures .1 .long ∙ reading-long (i .0)
+    let called = c .before .before .before .before in
+    called .read-slot .ensures .1 .long ∙ read-long (called .before .before .before .loop .inv)
 
--- src/slots.rt:70:13
 returns : tie.Need-returns Inv-loop μ-loop
 returns c =
-    let c1 = c .before .before .before .before .before .before in
-    let i = c1 .before .loop .inv in
-    let a = c1 .before .before .before .before .args in
-    let e = c .before .before .before .before .read-slot .ensures in
-    let b = reading-bad (i .0) (slots-read (2 ^ 64) (a .before) (a .after) (c1 .loop-test .taken) (a .bytes .now) (c1 .before .loop .at)) (at-bad (e .0) (c .enum-told .given .1)) in
-    (bad-place b, bad-stored b (e .1 .long ∙ reading-long (i .0)))
+    let called = c .before .before .before .before in
+    let taken = called .before .before in
+    let b = read-bad (taken .before .loop .inv) (taken .loop-test .taken) (at-bad (called .read-slot .ensures .0) (c .enum-told .given .1)) in
+    (bad-place b, bad-stored b (called .read-slot .ensures .1 .long ∙ read-long (taken .before .loop .inv)))
 
--- src/slots.rt:73:14
 add-i : tie.Need-add-i Inv-loop μ-loop
 add-i c =
-    let c1 = c .before .before .before .before .before .before .before in
-    let r = ahead-room (c1 .before .loop .inv .1) (c1 .loop-test .taken) in
-    omega (arith, r, c1 .before .before .before .before .pre .0, c1 .before .before .before .before .good)
+    let taken = c .before .before .before .before .before .before .before in
+    omega (arith, read-room (taken .before .loop .inv) (taken .loop-test .taken), read-long (taken .before .loop .inv), taken .before .before .before .before .good)
 
--- src/slots.rt:73:14
 add-i-2 : tie.Need-add-i-2 Inv-loop μ-loop
 add-i-2 c =
-    let c1 = c .before .before .before .before .before .before .before in
-    let r = ahead-room (c1 .before .loop .inv .1) (c1 .loop-test .taken) in
-    omega (arith, r, c1 .before .before .before .before .pre .0, c1 .before .before .before .before .good)
+    let taken = c .before .before .before .before .before .before .before in
+    omega (arith, read-room (taken .before .loop .inv) (taken .loop-test .taken), read-long (taken .before .loop .inv), taken .before .before .before .before .good)
 
--- src/slots.rt:73:9
 add-i-3 : tie.Need-add-i-3 Inv-loop μ-loop
 add-i-3 c =
-    let c1 = c .before .before .before .before .before .before .before in
-    let r = ahead-room (c1 .before .loop .inv .1) (c1 .loop-test .taken) in
-    omega (arith, r, c1 .before .before .before .before .pre .0, c1 .before .before .before .before .good)
+    let taken = c .before .before .before .before .before .before .before in
+    omega (arith, read-room (taken .before .loop .inv) (taken .loop-test .taken), read-long (taken .before .loop .inv), taken .before .before .before .before .good)
 
--- src/slots.rt:74:9
-add-n : tie.Need-add-n Inv-loop μ-loop
-add-n c = search needs
-
--- src/slots.rt:67:5
-loop-less : tie.Need-loop-less Inv-loop μ-loop
-loop-less c = search needs
-
--- src/slots.rt:67:5
 loop-again : tie.Need-loop-again Inv-loop μ-loop
 loop-again c =
-    let c1 = c .before .before .before .before .before .before .before in
-    let i = c1 .before .loop .inv in
-    let s = c1 .before .before .before .before in
-    let a = s .args in
-    let e = c .before .before .before .before .before .read-slot .ensures in
-    let g = at-got (e .0) (c .before .place .given .1) in
-    let t = slots-read (2 ^ 64) (a .before) (a .after) (c1 .loop-test .taken) (a .bytes .now) (c1 .before .loop .at) in
-    let n = slot-long (2 ^ 64) (a .before) (a .after) (a .bytes .now) (g .value) (c1 .before .loop .at) _ (g .is) in
-    let r = ahead-room (i .1) (c1 .loop-test .taken) in
-    (reading-more (i .0) t (g .value) _ (g .is) (e .1 .is (g .value) _ (g .is)) (omega (arith, n)) (omega (arith, r, s .pre .0)), ahead-more (i .1) (c1 .loop-test .taken))
+    let called = c .before .before .before .before .before in
+    let taken = called .before .before in
+    read-more (taken .before .loop .inv) (taken .loop-test .taken) (at-got (called .read-slot .ensures .0) (c .before .place .given .1)) (called .read-slot .ensures .1)
 
--- src/slots.rt:51:1
 same-length-2 : tie.Need-same-length-2 Inv-loop μ-loop
-same-length-2 c = reading-long (c .before .loop .inv .0)
+same-length-2 c = read-long (c .before .loop .inv)
 
--- src/slots.rt:51:1
 returns-2 : tie.Need-returns-2 Inv-loop μ-loop
-returns-2 c =
-    let i = c .before .loop in
-    let a = c .before .before .before .before .args in
-    let z = reading-end (i .inv .0) (no-read (2 ^ 64) (a .before) (a .after) (c .loop-test .left) (a .bytes .now) (i .at)) in
-    (got-place z, got-stored z (i .inv .0 .so-far) (reading-long (i .inv .0)))
+returns-2 c = (read-place (c .before .loop .inv) (c .loop-test .left), read-stored (c .before .loop .inv) (c .loop-test .left))
 
 pub read-slots-spec : {M : Type 1} → statement M
 read-slots-spec =
@@ -124,15 +70,15 @@ read-slots-spec =
     μ-loop
     loop-holds
     read-slot-requires
-    enum-known-place
-    enum-told
+    (λ c. search needs)
+    (λ c. search needs)
     same-length
     returns
     add-i
     add-i-2
     add-i-3
-    add-n
-    loop-less
+    (λ c. search needs)
+    (λ c. search needs)
     loop-again
     same-length-2
     returns-2)

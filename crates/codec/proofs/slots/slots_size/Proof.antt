@@ -1,98 +1,53 @@
-use mathlib.Core.Path.{_≡_, refl, sym, ap, _∙_}
-use Prim.Native.Nat.{ℕ, suc, _+_, _*_, _-_, _^_}
+use Prim.Native.Nat.{suc, _+_, _*_, _-_, _^_}
 use native.Mathlib.Omega.{arith}
 use borrow.Author.Needs.{needs}
-use lib.ListN.{length, getD}
 use Rattle.codec.specs.Numbers.{bytes-of, part}
 use Rattle.codec.specs.Slots.{slots}
-use Rattle.codec.specs.Loops.{Counting, counting-start, counting-more, counting-end}
-use Rattle.codec.specs.SlotsLoops.{Ahead, ahead-start, ahead-room, ahead-more, slots-fields, no-fields, slot-few}
+use Rattle.codec.specs.SlotsLoops.{room-here, Counting-slots, count-start, count-few, count-more, count-end}
 use Rattle.codec.proofs.slots.slots_size.Statement.{statement}
 use Rattle.codec.proofs.slots.slots_size.Tie as tie
-use Rattle.codec.proofs.slots.slots_size.Reads as reads
-use Rattle.codec.proofs.slots.slots_size.Lts as lts
-use Rattle.codec.proofs.slots.slot_size.Reads as slot-size-reads
 
 abbrev Inv-loop : tie.InvT-loop
-Inv-loop xs first before after k size₀ i₀ n₀ size i n =
-    let end = first + (before + suc after) * k in
-    Counting (bytes-of (slots (2 ^ 64) before after (k - n) .fields (part xs i end))) (bytes-of (slots (2 ^ 64) before after k .fields (part xs first end))) first i size × Ahead before after k end i n
+Inv-loop xs first before after k size₀ i₀ n₀ size i n = Counting-slots (2 ^ 64) before after k xs (bytes-of (slots (2 ^ 64) before after k .fields (part xs first (first + (before + suc after) * k)))) i n size
 
 abbrev μ-loop : tie.MeasureT-loop
 μ-loop xs first before after k size₀ i₀ n₀ size i n = k - n
 
--- src/slots.rt:128:5
 loop-holds : tie.Need-loop-holds Inv-loop μ-loop
 loop-holds c =
-    let a = c .before .args in
-    let e : a .k - 0 ≡ a .k = omega arith in
-    (counting-start (rw e), ahead-start (a .before) (a .after) (a .k) (a .first))
+    let s = c .before in
+    let a = s .args in
+    count-start (2 ^ 64) (a .before) (a .after) (a .k) (a .xs .now) (a .first) (s .pre .0)
 
--- src/slots.rt:129:17
 slot-size-requires : tie.Need-slot-size-requires Inv-loop μ-loop
-slot-size-requires c κs =
-    let s = c .before .before .before in
-    let r = ahead-room (c .before .loop .inv .1) (c .loop-test .taken) in
-    (omega (arith, r, s .pre), s .pre .1)
+slot-size-requires c κs = (room-here (c .before .loop .inv .room) (c .loop-test .taken), c .before .before .before .pre .1)
 
--- src/slots.rt:129:9
 add-size : tie.Need-add-size Inv-loop μ-loop
 add-size c =
-    let c1 = c .before in
-    let i = c1 .before .loop in
-    let s = c1 .before .before .before in
-    let a = s .args in
-    let r = ahead-room (i .inv .1) (c1 .loop-test .taken) in
-    let f = slot-few (2 ^ 64) (a .before) (a .after) (a .xs .now) (i .i) (omega (arith, r, s .pre)) in
-    omega (arith, r, f, i .inv .0 .few, s .pre, c .slot-size .ensures)
+    let taken = c .before in
+    let i = taken .before .loop .inv in
+    omega (arith, room-here (i .room) (taken .loop-test .taken), count-few i (taken .loop-test .taken) (c .slot-size .ensures), taken .before .before .before .pre)
 
--- src/slots.rt:130:14
 add-i : tie.Need-add-i Inv-loop μ-loop
 add-i c =
-    let c1 = c .before in
-    let r = ahead-room (c1 .before .loop .inv .1) (c1 .loop-test .taken) in
-    omega (arith, r, c1 .before .before .before .pre)
+    let taken = c .before in
+    omega (arith, room-here (taken .before .loop .inv .room) (taken .loop-test .taken), taken .before .before .before .pre)
 
--- src/slots.rt:130:14
 add-i-2 : tie.Need-add-i-2 Inv-loop μ-loop
 add-i-2 c =
-    let c1 = c .before in
-    let r = ahead-room (c1 .before .loop .inv .1) (c1 .loop-test .taken) in
-    omega (arith, r, c1 .before .before .before .pre)
+    let taken = c .before in
+    omega (arith, room-here (taken .before .loop .inv .room) (taken .loop-test .taken), taken .before .before .before .pre)
 
--- src/slots.rt:130:9
 add-i-3 : tie.Need-add-i-3 Inv-loop μ-loop
 add-i-3 c =
-    let c1 = c .before in
-    let r = ahead-room (c1 .before .loop .inv .1) (c1 .loop-test .taken) in
-    omega (arith, r, c1 .before .before .before .pre)
+    let taken = c .before in
+    omega (arith, room-here (taken .before .loop .inv .room) (taken .loop-test .taken), taken .before .before .before .pre)
 
--- src/slots.rt:131:9
-add-n : tie.Need-add-n Inv-loop μ-loop
-add-n c = search needs
-
--- src/slots.rt:128:5
-loop-less : tie.Need-loop-less Inv-loop μ-loop
-loop-less c = search needs
-
--- src/slots.rt:128:5
 loop-again : tie.Need-loop-again Inv-loop μ-loop
-loop-again c =
-    let c1 = c .before in
-    let i = c1 .before .loop in
-    let s = c1 .before .before .before in
-    let a = s .args in
-    let r = ahead-room (i .inv .1) (c1 .loop-test .taken) in
-    let f = slot-few (2 ^ 64) (a .before) (a .after) (a .xs .now) (i .i) (omega (arith, r, s .pre)) in
-    let t = slots-fields (2 ^ 64) (a .before) (a .after) (a .xs .now) (i .inv .1) (s .pre .0) (c1 .loop-test .taken) in
-    (counting-more (i .inv .0) _ t (c .slot-size .ensures) (omega (arith, f)), ahead-more (i .inv .1) (c1 .loop-test .taken))
+loop-again c = count-more (c .before .before .loop .inv) (c .before .loop-test .taken) (c .slot-size .ensures)
 
--- src/slots.rt:121:1
 returns : tie.Need-returns Inv-loop μ-loop
-returns c =
-    let i = c .before .loop .inv in
-    let a = c .before .before .before .args in
-    counting-end (i .0) (no-fields (2 ^ 64) (a .before) (a .after) (a .xs .now) (i .1) (c .loop-test .left))
+returns c = count-end (c .before .loop .inv) (c .loop-test .left)
 
 pub slots-size-spec : {M : Type 1} → statement M
 slots-size-spec =
@@ -106,7 +61,7 @@ slots-size-spec =
     add-i
     add-i-2
     add-i-3
-    add-n
-    loop-less
+    (λ c. search needs)
+    (λ c. search needs)
     loop-again
     returns)

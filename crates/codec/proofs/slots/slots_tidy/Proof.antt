@@ -1,92 +1,50 @@
-use mathlib.Core.Path.{_≡_, refl, sym, ap, _∙_}
-use Prim.Native.Nat.{ℕ, suc, _+_, _*_, _-_, _^_}
+use Prim.Native.Nat.{suc, _+_, _*_, _-_, _^_}
 use native.Mathlib.Omega.{arith}
 use borrow.Author.Needs.{needs}
-use Rattle.laws.specs.Bool.{passed, stopped}
 use Rattle.codec.specs.Numbers.{part}
 use Rattle.codec.specs.Slots.{slots}
-use Rattle.codec.specs.SlotsLoops.{Ahead, ahead-start, ahead-room, ahead-more, slots-tidy, no-tidy}
+use Rattle.codec.specs.SlotsLoops.{room-here, Testing-slots, test-start, test-stop, test-more, test-end}
 use Rattle.codec.proofs.slots.slots_tidy.Statement.{statement}
 use Rattle.codec.proofs.slots.slots_tidy.Tie as tie
-use Rattle.codec.proofs.slots.slots_tidy.Reads as reads
-use Rattle.codec.proofs.slots.slots_tidy.Lts as lts
-use Rattle.codec.proofs.slots.slot_tidy.Reads as slot-tidy-reads
 
 abbrev Inv-loop : tie.InvT-loop
-Inv-loop xs first before after k i₀ n₀ i n =
-    let end = first + (before + suc after) * k in
-    (slots (2 ^ 64) before after (k - n) .tidy (part xs i end) ≡ slots (2 ^ 64) before after k .tidy (part xs first end)) × Ahead before after k end i n
+Inv-loop xs first before after k i₀ n₀ i n = Testing-slots (2 ^ 64) before after k xs (slots (2 ^ 64) before after k .tidy (part xs first (first + (before + suc after) * k))) i n
 
 abbrev μ-loop : tie.MeasureT-loop
 μ-loop xs first before after k i₀ n₀ i n = k - n
 
--- src/slots.rt:98:5
 loop-holds : tie.Need-loop-holds Inv-loop μ-loop
 loop-holds c =
-    let a = c .before .args in
-    let e : a .k - 0 ≡ a .k = omega arith in
-    (rw e, ahead-start (a .before) (a .after) (a .k) (a .first))
-
--- src/slots.rt:99:13
-slot-tidy-requires : tie.Need-slot-tidy-requires Inv-loop μ-loop
-slot-tidy-requires c κs =
-    let r = ahead-room (c .before .loop .inv .1) (c .loop-test .taken) in
-    omega (arith, r, c .before .before .before .pre)
-
--- src/slots.rt:100:13
-returns : tie.Need-returns Inv-loop μ-loop
-returns c =
-    let c1 = c .before .before in
-    let i = c1 .before .loop .inv in
-    let s = c1 .before .before .before in
+    let s = c .before in
     let a = s .args in
-    stopped (c .before .slot-tidy .ensures) (c .if1 .taken) _ ∙ sym (slots-tidy (2 ^ 64) (a .before) (a .after) (a .xs .now) (i .1) (s .pre) (c1 .loop-test .taken)) ∙ i .0
+    test-start (2 ^ 64) (a .before) (a .after) (a .k) (a .xs .now) (a .first) (s .pre)
 
--- src/slots.rt:102:14
+slot-tidy-requires : tie.Need-slot-tidy-requires Inv-loop μ-loop
+slot-tidy-requires c κs = room-here (c .before .loop .inv .room) (c .loop-test .taken)
+
+returns : tie.Need-returns Inv-loop μ-loop
+returns c = test-stop (c .before .before .before .loop .inv) (c .before .before .loop-test .taken) (c .before .slot-tidy .ensures) (c .if1 .taken)
+
 add-i : tie.Need-add-i Inv-loop μ-loop
 add-i c =
-    let c1 = c .before .before in
-    let r = ahead-room (c1 .before .loop .inv .1) (c1 .loop-test .taken) in
-    omega (arith, r, c1 .before .before .before .pre, c1 .before .before .before .good)
+    let taken = c .before .before in
+    omega (arith, room-here (taken .before .loop .inv .room) (taken .loop-test .taken), taken .before .before .before .good)
 
--- src/slots.rt:102:14
 add-i-2 : tie.Need-add-i-2 Inv-loop μ-loop
 add-i-2 c =
-    let c1 = c .before .before in
-    let r = ahead-room (c1 .before .loop .inv .1) (c1 .loop-test .taken) in
-    omega (arith, r, c1 .before .before .before .pre, c1 .before .before .before .good)
+    let taken = c .before .before in
+    omega (arith, room-here (taken .before .loop .inv .room) (taken .loop-test .taken), taken .before .before .before .good)
 
--- src/slots.rt:102:9
 add-i-3 : tie.Need-add-i-3 Inv-loop μ-loop
 add-i-3 c =
-    let c1 = c .before .before in
-    let r = ahead-room (c1 .before .loop .inv .1) (c1 .loop-test .taken) in
-    omega (arith, r, c1 .before .before .before .pre, c1 .before .before .before .good)
+    let taken = c .before .before in
+    omega (arith, room-here (taken .before .loop .inv .room) (taken .loop-test .taken), taken .before .before .before .good)
 
--- src/slots.rt:103:9
-add-n : tie.Need-add-n Inv-loop μ-loop
-add-n c = search needs
-
--- src/slots.rt:98:5
-loop-less : tie.Need-loop-less Inv-loop μ-loop
-loop-less c = search needs
-
--- src/slots.rt:98:5
 loop-again : tie.Need-loop-again Inv-loop μ-loop
-loop-again c =
-    let c1 = c .before .before in
-    let i = c1 .before .loop .inv in
-    let s = c1 .before .before .before in
-    let a = s .args in
-    let t = slots-tidy (2 ^ 64) (a .before) (a .after) (a .xs .now) (i .1) (s .pre) (c1 .loop-test .taken) in
-    (sym (passed (c .before .slot-tidy .ensures) (c .if1 .left) _) ∙ sym t ∙ i .0, ahead-more (i .1) (c1 .loop-test .taken))
+loop-again c = test-more (c .before .before .before .loop .inv) (c .before .before .loop-test .taken) (c .before .slot-tidy .ensures) (c .if1 .left)
 
--- src/slots.rt:92:1
 returns-2 : tie.Need-returns-2 Inv-loop μ-loop
-returns-2 c =
-    let i = c .before .loop .inv in
-    let a = c .before .before .before .args in
-    sym (no-tidy (2 ^ 64) (a .before) (a .after) (a .xs .now) (i .1) (c .loop-test .left)) ∙ i .0
+returns-2 c = test-end (c .before .loop .inv) (c .loop-test .left)
 
 pub slots-tidy-spec : {M : Type 1} → statement M
 slots-tidy-spec =
@@ -100,7 +58,7 @@ slots-tidy-spec =
     add-i
     add-i-2
     add-i-3
-    add-n
-    loop-less
+    (λ c. search needs)
+    (λ c. search needs)
     loop-again
     returns-2)

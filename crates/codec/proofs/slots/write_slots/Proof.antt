@@ -1,94 +1,56 @@
-use mathlib.Core.Path.{_≡_, refl, sym, ap, _∙_}
-use Prim.Native.Nat.{ℕ, suc, _+_, _*_, _-_, _^_}
+use Prim.Native.Nat.{suc, _+_, _*_, _-_, _^_}
 use native.Mathlib.Omega.{arith}
 use borrow.Author.Needs.{needs}
-use lib.ListN.{length, getD}
 use Rattle.codec.specs.Numbers.{bytes-of, part}
 use Rattle.codec.specs.Slots.{slots}
-use Rattle.codec.specs.Loops.{Writing, writing-start, writing-long, writing-room, writing-more, writing-place, writing-end}
-use Rattle.codec.specs.SlotsLoops.{Ahead, ahead-start, ahead-room, ahead-more, slots-fields, no-fields}
+use Rattle.codec.specs.SlotsLoops.{room-here, Writing-slots, write-start, write-long, write-room, write-more, write-place, write-end}
 use Rattle.codec.proofs.slots.write_slots.Statement.{statement}
 use Rattle.codec.proofs.slots.write_slots.Tie as tie
-use Rattle.codec.proofs.slots.write_slots.Reads as reads
-use Rattle.codec.proofs.slots.write_slots.Lts as lts
-use Rattle.codec.proofs.slots.write_slot.Reads as write-slot-reads
 
 abbrev Inv-loop : tie.InvT-loop
-Inv-loop out₀ at xs first before after k place₀ i₀ n₀ out place i n =
-    let end = first + (before + suc after) * k in
-    Writing (bytes-of (slots (2 ^ 64) before after (k - n) .fields (part xs i end))) (bytes-of (slots (2 ^ 64) before after k .fields (part xs first end))) out₀ at place out × Ahead before after k end i n
+Inv-loop out₀ at xs first before after k place₀ i₀ n₀ out place i n = Writing-slots (2 ^ 64) before after k xs (bytes-of (slots (2 ^ 64) before after k .fields (part xs first (first + (before + suc after) * k)))) out₀ at i n place out
 
 abbrev μ-loop : tie.MeasureT-loop
 μ-loop out₀ at xs first before after k place₀ i₀ n₀ out place i n = k - n
 
--- src/slots.rt:177:5
 loop-holds : tie.Need-loop-holds Inv-loop μ-loop
 loop-holds c =
     let s = c .before .before in
     let a = s .args in
-    let e : a .k - 0 ≡ a .k = omega arith in
-    (writing-start (rw e) (s .pre .1), ahead-start (a .before) (a .after) (a .k) (a .first))
+    write-start (2 ^ 64) (a .before) (a .after) (a .k) (a .xs .now) (a .out .now) (a .at) (a .first) (s .pre .0) (s .pre .1)
 
--- src/slots.rt:178:9
 write-slot-requires : tie.Need-write-slot-requires Inv-loop μ-loop
 write-slot-requires c κs =
-    let c1 = c .before in
-    let i = c1 .before .loop .inv in
-    let s = c1 .before .before .before .before in
-    let a = s .args in
-    let r = ahead-room (i .1) (c1 .loop-test .taken) in
-    (omega (arith, r, s .pre .0), writing-room (i .0) (slots-fields (2 ^ 64) (a .before) (a .after) (a .xs .now) (i .1) (s .pre .0) (c1 .loop-test .taken)))
+    let taken = c .before in
+    let i = taken .before .loop .inv in
+    (room-here (i .room) (taken .loop-test .taken), write-room i (taken .loop-test .taken))
 
--- src/slots.rt:179:14
 add-i : tie.Need-add-i Inv-loop μ-loop
 add-i c =
-    let c1 = c .before .before .before .before in
-    let r = ahead-room (c1 .before .loop .inv .1) (c1 .loop-test .taken) in
-    omega (arith, r, c1 .before .before .before .before .pre .0, c1 .before .before .before .before .good)
+    let taken = c .before .before .before .before in
+    omega (arith, room-here (taken .before .loop .inv .room) (taken .loop-test .taken), taken .before .before .before .before .good)
 
--- src/slots.rt:179:14
 add-i-2 : tie.Need-add-i-2 Inv-loop μ-loop
 add-i-2 c =
-    let c1 = c .before .before .before .before in
-    let r = ahead-room (c1 .before .loop .inv .1) (c1 .loop-test .taken) in
-    omega (arith, r, c1 .before .before .before .before .pre .0, c1 .before .before .before .before .good)
+    let taken = c .before .before .before .before in
+    omega (arith, room-here (taken .before .loop .inv .room) (taken .loop-test .taken), taken .before .before .before .before .good)
 
--- src/slots.rt:179:9
 add-i-3 : tie.Need-add-i-3 Inv-loop μ-loop
 add-i-3 c =
-    let c1 = c .before .before .before .before in
-    let r = ahead-room (c1 .before .loop .inv .1) (c1 .loop-test .taken) in
-    omega (arith, r, c1 .before .before .before .before .pre .0, c1 .before .before .before .before .good)
+    let taken = c .before .before .before .before in
+    omega (arith, room-here (taken .before .loop .inv .room) (taken .loop-test .taken), taken .before .before .before .before .good)
 
--- src/slots.rt:180:9
-add-n : tie.Need-add-n Inv-loop μ-loop
-add-n c = search needs
-
--- src/slots.rt:177:5
-loop-less : tie.Need-loop-less Inv-loop μ-loop
-loop-less c = search needs
-
--- src/slots.rt:177:5
 loop-again : tie.Need-loop-again Inv-loop μ-loop
 loop-again c =
-    let c1 = c .before .before .before .before in
-    let i = c1 .before .loop .inv in
-    let s = c1 .before .before .before .before in
-    let a = s .args in
-    let t = slots-fields (2 ^ 64) (a .before) (a .after) (a .xs .now) (i .1) (s .pre .0) (c1 .loop-test .taken) in
-    (writing-more (i .0) t (c .before .before .write-slot .ensures .0) (c .before .before .write-slot .ensures .1), ahead-more (i .1) (c1 .loop-test .taken))
+    let called = c .before .before in
+    let taken = called .before .before in
+    write-more (taken .before .loop .inv) (taken .loop-test .taken) (called .write-slot .ensures .0) (called .write-slot .ensures .1)
 
--- src/slots.rt:160:1
 same-length : tie.Need-same-length Inv-loop μ-loop
-same-length c = writing-long (c .before .loop .inv .0)
+same-length c = write-long (c .before .loop .inv)
 
--- src/slots.rt:160:1
 returns : tie.Need-returns Inv-loop μ-loop
-returns c =
-    let i = c .before .loop .inv in
-    let a = c .before .before .before .before .args in
-    let z = no-fields (2 ^ 64) (a .before) (a .after) (a .xs .now) (i .1) (c .loop-test .left) in
-    (writing-place (i .0) z, writing-end (i .0) z)
+returns c = (write-place (c .before .loop .inv) (c .loop-test .left), write-end (c .before .loop .inv) (c .loop-test .left))
 
 pub write-slots-spec : {M : Type 1} → statement M
 write-slots-spec =
@@ -101,8 +63,8 @@ write-slots-spec =
     add-i
     add-i-2
     add-i-3
-    add-n
-    loop-less
+    (λ c. search needs)
+    (λ c. search needs)
     loop-again
     same-length
     returns)
