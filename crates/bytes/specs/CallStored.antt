@@ -17,3 +17,8 @@ pub record Call-stored (read : Read (List ℕ)) (sheet call given : List ℕ) : 
   pub sheet-is : (ns : List ℕ) (next : ℕ) → read ≡ got ns next → sheet ≡ sheet-in ns
   pub call-is : (ns : List ℕ) (next : ℕ) → read ≡ got ns next → call ≡ numbers-in (without-sheet ns)
   pub run-is : (ns : List ℕ) (next : ℕ) → read ≡ got ns next → given ≡ run-in (without-sheet ns)
+
+-- A call without its sheet.
+pub record On-stored (read : Read (List ℕ)) (call given : List ℕ) : Type 0 where
+  pub call-is : (ns : List ℕ) (next : ℕ) → read ≡ got ns next → call ≡ numbers-in ns
+  pub run-is : (ns : List ℕ) (next : ℕ) → read ≡ got ns next → given ≡ run-in ns

@@ -10,7 +10,7 @@ ghost use lib.ListN.{replicate};
 ghost use Rattle.workflow.specs.Layout.{numbers as sheet-length};
 ghost use Rattle.host.specs.Layout.{record-length, call-length, call-has-record};
 ghost use Rattle.codec.specs.Stored.{place-of, Stored, Zero-from};
-ghost use Rattle.bytes.specs.Call.{given-shape, rest, call, marked};
+ghost use Rattle.bytes.specs.Call.{given-shape, rest, call as whole-call, marked};
 ghost use Rattle.bytes.specs.CallStored.{Rest-stored, Call-stored};
 
 fn read_given(
@@ -88,8 +88,8 @@ pub fn read_call(
     run: &mut [u64; layout::RECORD],
 ) -> Place
     requires { ⌜ (now sheet ≡ replicate sheet-length 0) × (now call ≡ replicate call-length 0) × (now run ≡ replicate record-length 0) ⌝ }
-    ensures { λ r. ⌜ r ≡ place-of (call .read (now (bytes .entry)) 0) ⌝ }
-    ensures { λ _. ⌜ Call-stored (call .read (now (bytes .entry)) 0) (now (sheet .exit)) (now (call .exit)) (now (run .exit)) ⌝ }
+    ensures { λ r. ⌜ r ≡ place-of (whole-call .read (now (bytes .entry)) 0) ⌝ }
+    ensures { λ _. ⌜ Call-stored (whole-call .read (now (bytes .entry)) 0) (now (sheet .exit)) (now (call .exit)) (now (run .exit)) ⌝ }
 {
     let limits = read_longs(bytes, 0, call, 0, layout::CALL_HAS_RECORD);
     let Place::At(first) = limits else {

@@ -37,7 +37,7 @@ nothing-yet (got ns p) = refl
 pub reading-start : (bytes before : List ℕ) (first : ℕ) (shape : Shape) (at : ℕ) → first + shape .width ≤ length before → Zero-from first before → Reading-shapes bytes (shape .read bytes at) before first shape at first before
 reading-start bytes before first shape at h z = record { so-far = []; left = nothing-yet (shape .read bytes at); is = sym (splice-none before first); place = omega arith; room = h; blank = z }
 
-getD-splice : (xs : List ℕ) (at : ℕ) (ys : List ℕ) (k : ℕ) → at ≤ length xs → k < length ys → getD (splice xs at ys) (at + k) 0 ≡ getD ys k 0
+pub getD-splice : (xs : List ℕ) (at : ℕ) (ys : List ℕ) (k : ℕ) → at ≤ length xs → k < length ys → getD (splice xs at ys) (at + k) 0 ≡ getD ys k 0
 unfolding splice
 getD-splice xs at ys k h g =
     let t = length-take-le at xs h in
