@@ -262,7 +262,7 @@ module _ {bytes : List ℕ} {whole : Read (List ℕ)} {before : List ℕ} {at : 
           let c : count-of ≡ getD (b .value) 0 0 =
           ap (λ (l : List ℕ). getD l layout.call-answered 0) s ∙ (getD-splice call layout.call-sequence (a .value ++ b .value) layout.event-length (omega arith) (omega arith) ∙ ap (λ j. getD (a .value ++ b .value) j 0) i ∙ getD-append-add (a .value) (b .value) 0 0) in
           let v : b .value ≡ count-of ∷ [] = single (b .value) m ∙ ap (λ (n : ℕ). n ∷ []) (sym c) in
-          record { xs = a .value; place = a .place; first = a .one; second = b .one ∙ ap (λ (l : List ℕ). got l (b .place)) v ∙ ap (got (count-of ∷ [])) y; is = s ∙ ap (λ (l : List ℕ). splice call layout.call-sequence (a .value ++ l)) v; long = n }
+          record { xs = a .value; place = a .place; first = a .one; second = rw (v, y) at (b .one); is = s ∙ ap (λ (l : List ℕ). splice call layout.call-sequence (a .value ++ l)) v; long = n }
 
       pub count-over : layout.mappings < count-of → whole ≡ bad
       unfolding numbers
