@@ -66,10 +66,6 @@ none-wide : numbers 0 0 .width ≡ 0
 unfolding numbers
 none-wide = refl
 
-pub used-many : (seen : List ℕ) → length (used seen) ≡ length rooms
-unfolding used
-used-many seen = refl
-
 -- READ. The last shape is read, and so is the whole.
 module _ {bytes : List ℕ} {whole : Read (List ℕ)} {before : List ℕ} {first at i : ℕ} {list : List ℕ} (one : Shape) (inv : Reading-shapes bytes whole before first (beside one (λ _. numbers 0 0) 0) at i list) (exact : Exact one) (good : Bytes bytes) where
   by-last : {z : Place} {after : List ℕ} (r : Read (List ℕ)) → one .read bytes at ≡ r → z ≡ place-of r → Stored (one .read bytes at) list i after → (z ≡ place-of whole) × Stored whole before first after
@@ -128,90 +124,95 @@ module _ {bytes before : List ℕ} {start next : ℕ} {list : List ℕ} (read : 
   pub columns-room : layout.node-kind + total rooms ≤ length list
   columns-room = rw (columns-width (2 ^ 32) rooms (used (read .seen))) at (reading-room (read .reading) (columns-by (read .seen)) (λ _. numbers 0 0) 0 refl)
 
-  pub columns-read : {z : Place} {after : List ℕ} → Bytes bytes → z ≡ place-of (columns-by list .read bytes next) → Stored (columns-by list .read bytes next) list layout.node-kind after → (z ≡ place-of (sheet .read bytes start)) × Stored (sheet .read bytes start) before 0 after
-  columns-read {z} {after} good a s =
-      last-read (columns-by (read .seen)) (read .reading) (columns-exact (2 ^ 32) rooms (used (read .seen)) (omega arith)) good (rw (read .same) at a) (rw (read .same) at s)
+  pub columns-read : {z : Place} {counts after : List ℕ} → Bytes bytes → counts ≡ used list → z ≡ place-of (columns (2 ^ 32) rooms counts .read bytes next) → Stored (columns (2 ^ 32) rooms counts .read bytes next) list layout.node-kind after → (z ≡ place-of (sheet .read bytes start)) × Stored (sheet .read bytes start) before 0 after
+  columns-read {z} {counts} {after} good are a s =
+      let e : counts ≡ used (read .seen) = are ∙ read .same in
+      last-read (columns-by (read .seen)) (read .reading) (columns-exact (2 ^ 32) rooms (used (read .seen)) (omega arith)) good (rw e at a) (rw e at s)
 
 -- IN NUMBERS.
 module _ (w : List ℕ) (long : length w ≡ layout.numbers) where
+  abbrev seen : List ℕ
+  seen = held w head 0
+
+  used-held : used seen ≡ used w
+  unfolding part numbers
+  used-held = used-same (take (0 + layout.node-kind - 0) w) w (λ k h. getD-take (0 + layout.node-kind - 0) w k 0 (omega arith))
+
   all-held : held w sheet 0 ≡ w
   unfolding part
   all-held = let e = sheet-width in take-all (0 + sheet .width - 0) w (omega arith)
 
-  used-held : used (held w head 0) ≡ used w
-  unfolding part numbers
-  used-held = used-same (take (0 + layout.node-kind - 0) w) w (λ k h. getD-take (0 + layout.node-kind - 0) w k 0 (omega arith))
-
   abbrev columns-held : List ℕ
   columns-held = part w layout.node-kind (layout.node-kind + total rooms)
 
-  abbrev seen : List ℕ
-  seen = held w head 0
+  both-tidy : sheet .tidy w ≡ (neat w head 0 and neat w (rest-by seen) (0 + head .width))
+  both-tidy = ap (λ (ns : List ℕ). sheet .tidy ns) (sym all-held) ∙ neat-next w 0 sheet head rest-by (total rooms + 0) two-stages (rest-wide seen)
 
-  next-tidy : sheet .tidy w ≡ (neat w head 0 and neat w (rest-by seen) (0 + head .width))
-  next-tidy = ap (λ (ns : List ℕ). sheet .tidy ns) (sym all-held) ∙ neat-next w 0 sheet head rest-by (total rooms + 0) two-stages (rest-wide seen)
+  -- by the counts that stand in it
+  module _ {counts : List ℕ} (are : counts ≡ used w) where
+    abbrev by-them : Shape
+    by-them = columns (2 ^ 32) rooms counts
 
-  rest-tidy : neat w (rest-by seen) (0 + head .width) ≡ columns-by w .tidy columns-held
-  unfolding numbers
-  rest-tidy =
-      rw (← used-held, ← columns-width (2 ^ 32) rooms (used seen))
-      (neat-next w layout.node-kind (rest-by seen) (columns-by seen) (λ _. numbers 0 0) 0 refl none-wide
-      ∙ rw (neat-none w (layout.node-kind + columns-by seen .width) (numbers 0 0) refl) (sym (and-true (neat w (columns-by seen) layout.node-kind))))
+    rest-tidy : neat w (rest-by seen) (0 + head .width) ≡ by-them .tidy columns-held
+    unfolding numbers
+    rest-tidy =
+        rw (are, ← used-held, ← columns-width (2 ^ 32) rooms (used seen))
+        (neat-next w layout.node-kind (rest-by seen) (columns-by seen) (λ _. numbers 0 0) 0 refl none-wide
+        ∙ rw (neat-none w (layout.node-kind + columns-by seen .width) (numbers 0 0) refl) (sym (and-true (neat w (columns-by seen) layout.node-kind))))
 
-  pub columns-tidy : sheet .tidy w ≡ true → columns-by w .tidy columns-held ≡ true
-  columns-tidy t = sym rest-tidy ∙ both _ _ (sym next-tidy ∙ t) .1
+    pub columns-tidy : sheet .tidy w ≡ true → by-them .tidy columns-held ≡ true
+    columns-tidy t = sym rest-tidy ∙ both _ _ (sym both-tidy ∙ t) .1
 
-  -- numbers of 32 bits
-  pub tidy-columns : ((n : ℕ) → getD w n 0 < 2 ^ 32) → columns-by w .tidy columns-held ≡ sheet .tidy w
-  unfolding numbers _and_
-  tidy-columns small =
-      let l = part-long w 0 layout.node-kind (omega arith) in
-      let h : neat w head 0 ≡ true = join _ _ (eq-eqb (length seen) layout.node-kind l) (part-below (2 ^ 32) w 0 (0 + layout.node-kind) small) in
-      sym rest-tidy ∙ sym (rw h at next-tidy)
+    pub tidy-columns : ((n : ℕ) → getD w n 0 < 2 ^ 32) → by-them .tidy columns-held ≡ sheet .tidy w
+    unfolding numbers _and_
+    tidy-columns small =
+        let l = part-long w 0 layout.node-kind (omega arith) in
+        let h : neat w head 0 ≡ true = join _ _ (eq-eqb (length seen) layout.node-kind l) (part-below (2 ^ 32) w 0 (0 + layout.node-kind) small) in
+        sym rest-tidy ∙ sym (rw h at both-tidy)
 
-  -- their bytes
-  abbrev head-bytes : List ℕ
-  head-bytes = bytes-of (part w 0 layout.node-kind)
+    -- its bytes
+    abbrev head-bytes : List ℕ
+    head-bytes = bytes-of (part w 0 layout.node-kind)
 
-  abbrev column-bytes : List ℕ
-  column-bytes = bytes-of (columns-by w .fields columns-held)
+    abbrev column-bytes : List ℕ
+    column-bytes = bytes-of (by-them .fields columns-held)
 
-  rest-bytes : written w (rest-by seen) (0 + head .width) ≡ column-bytes
-  unfolding numbers
-  rest-bytes =
-      rw (← used-held, ← columns-width (2 ^ 32) rooms (used seen))
-      (written-next w layout.node-kind (rest-by seen) (columns-by seen) (λ _. numbers 0 0) 0 refl none-wide
-      ∙ rw (written-none w (layout.node-kind + columns-by seen .width) (numbers 0 0) refl) (append-nil (written w (columns-by seen) layout.node-kind)))
+    rest-bytes : written w (rest-by seen) (0 + head .width) ≡ column-bytes
+    unfolding numbers
+    rest-bytes =
+        rw (are, ← used-held, ← columns-width (2 ^ 32) rooms (used seen))
+        (written-next w layout.node-kind (rest-by seen) (columns-by seen) (λ _. numbers 0 0) 0 refl none-wide
+        ∙ rw (written-none w (layout.node-kind + columns-by seen .width) (numbers 0 0) refl) (append-nil (written w (columns-by seen) layout.node-kind)))
 
-  sheet-bytes : bytes-of (sheet .fields w) ≡ head-bytes ++ column-bytes
-  unfolding numbers
-  sheet-bytes = (rw all-held at (written-next w 0 sheet head rest-by (total rooms + 0) two-stages (rest-wide seen))) ∙ rw rest-bytes
+    sheet-bytes : bytes-of (sheet .fields w) ≡ head-bytes ++ column-bytes
+    unfolding numbers
+    sheet-bytes = (rw all-held at (written-next w 0 sheet head rest-by (total rooms + 0) two-stages (rest-wide seen))) ∙ rw rest-bytes
 
-  pub sheet-size : length head-bytes + length column-bytes ≡ length (bytes-of (sheet .fields w))
-  sheet-size = rw sheet-bytes (sym (length-append head-bytes column-bytes))
+    pub sheet-size : length head-bytes + length column-bytes ≡ length (bytes-of (sheet .fields w))
+    sheet-size = rw sheet-bytes (sym (length-append head-bytes column-bytes))
+
+    -- written over a buffer's beginning
+    module _ (out : List ℕ) (fits : length (bytes-of (sheet .fields w)) ≤ length out) where
+      pub head-fits : 0 + length head-bytes ≤ length out
+      head-fits = let n = sheet-size in omega arith
+
+      module _ {place : ℕ} {list : List ℕ} (behind : place ≡ 0 + length head-bytes) (is : list ≡ splice out 0 head-bytes) where
+        pub columns-fit : place + length column-bytes ≤ length list
+        columns-fit =
+            let n = sheet-size in
+            let l = length-splice out 0 head-bytes head-fits in
+            rw is (omega arith)
+
+        pub both-written : {after : List ℕ} → after ≡ splice list place column-bytes → after ≡ splice out 0 (bytes-of (sheet .fields w))
+        both-written {after} e =
+            let n = sheet-size in
+            e ∙ rw (is, sheet-bytes) (splice-more out 0 head-bytes column-bytes place behind (omega arith))
 
   pub sheet-few : length (bytes-of (sheet .fields w)) ≤ 10 * layout.numbers
   unfolding total
   sheet-few =
-      let n = sheet-size in
+      let n = sheet-size refl in
       let h = part-few w 0 layout.node-kind in
       let l = part-long w layout.node-kind (total rooms) (omega arith) in
       let f = columns-few (2 ^ 32) rooms (used w) columns-held in
       omega arith
-
-  -- written over a buffer's beginning
-  module _ (out : List ℕ) (fits : length (bytes-of (sheet .fields w)) ≤ length out) where
-    pub head-fits : 0 + length head-bytes ≤ length out
-    head-fits = let n = sheet-size in omega arith
-
-    module _ {place : ℕ} {list : List ℕ} (behind : place ≡ 0 + length head-bytes) (is : list ≡ splice out 0 head-bytes) where
-      pub columns-fit : place + length column-bytes ≤ length list
-      columns-fit =
-          let n = sheet-size in
-          let l = length-splice out 0 head-bytes head-fits in
-          rw is (omega arith)
-
-      pub both-written : {after : List ℕ} → after ≡ splice list place column-bytes → after ≡ splice out 0 (bytes-of (sheet .fields w))
-      both-written {after} e =
-          let n = sheet-size in
-          e ∙ rw (is, sheet-bytes) (splice-more out 0 head-bytes column-bytes place behind (omega arith))

@@ -1,7 +1,7 @@
 use native.Mathlib.Omega.{arith}
 use Rattle.codec.specs.Exact.{Bytes}
 use Rattle.codec.specs.StoredLaws.{bad-place, bad-stored}
-use Rattle.bytes.specs.SheetLaws.{used-many, head-bad, head-read, columns-room, columns-read}
+use Rattle.bytes.specs.SheetLaws.{head-bad, head-read, columns-room, columns-read}
 use borrow.Author.Needs.{needs}
 use Rattle.bytes.proofs.sheet.read_sheet.Statement.{statement}
 use Rattle.bytes.proofs.sheet.read_sheet.Tie as tie
@@ -19,7 +19,7 @@ read-columns-requires c κs =
     let a = s .args in
     let r = c .before .before .before .before .before .before .before .before .before .read-numbers .ensures in
     let h = head-read (a .bytes .now) (a .w .now) (a .start) (s .pre) (r .0) (c .before .before .before .before .before .before .before .head .given .1) (r .1) in
-    (columns-room h, rw (c .before .before .before .used .ensures) (used-many _), h .reading .blank)
+    (columns-room h, search needs, h .reading .blank)
 
 returns-2 : tie.Need-returns-2
 returns-2 c =
@@ -28,8 +28,7 @@ returns-2 c =
     let r = c .before .before .before .before .before .before .before .before .before .before .read-numbers .ensures in
     let h = head-read (a .bytes .now) (a .w .now) (a .start) (s .pre) (r .0) (c .before .before .before .before .before .before .before .before .head .given .1) (r .1) in
     let good : Bytes (a .bytes .now) = record { each = λ i. omega (arith, c .before .before .before .before .before .before .before .before .before .before .before .before .shared-slice-known .given i) } in
-    let e = rw (c .before .before .before .before .used .ensures) at (c .read-columns .ensures) in
-    columns-read h good (e .0) (e .1)
+    columns-read h good (c .before .before .before .before .used .ensures) (c .read-columns .ensures .0) (c .read-columns .ensures .1)
 
 pub read-sheet-spec : {M : Type 1} → statement M
 read-sheet-spec =
