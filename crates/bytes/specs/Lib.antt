@@ -7,4 +7,5 @@ pub mod Answer
 pub mod Boundary
 pub mod CallStored
 -- laws
+pub mod SheetLaws
 pub mod BoundaryLaws
