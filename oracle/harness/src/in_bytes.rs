@@ -241,7 +241,7 @@ struct Made {
     /// The whole call, and the call without its sheet.
     whole: Vec<u8>,
     rest: Vec<u8>,
-    /// Whether the call's bytes are those of all its numbers.
+    /// Whether the call's bytes have all its numbers but mapping answers behind their count, which nothing reads.
     exact: bool,
 }
 
@@ -258,12 +258,11 @@ impl Made {
             call: numbers,
             record,
         };
-        let whole = bytes::write_call(&it);
         // Mapping answers behind their count are no part of a call in bytes.
         let answered = MAPPING_WIDTH * call.mappings.count.min(MAPPINGS as u32) as usize;
-        let unread = it.call[CALL_MAPPINGS..].iter().skip(answered);
-        let exact = unread.copied().all(|number| number == 0)
-            && bytes::read_call(&whole, true).is_some_and(|read| read == it);
+        it.call[CALL_MAPPINGS + answered..].fill(0);
+        let whole = bytes::write_call(&it);
+        let exact = bytes::read_call(&whole, true).is_some_and(|read| read == it);
         it.sheet = None;
         Made {
             sheet,

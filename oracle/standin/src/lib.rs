@@ -2,7 +2,7 @@
 
 use std::slice;
 
-use bytes::functions;
+use boundary::bytes;
 use calls::Ceilings;
 
 #[no_mangle]
@@ -66,7 +66,7 @@ pub unsafe extern "C" fn kuxhoveza_verdict(
     boundary::verdict(sheet, &ceilings, verdict)
 }
 
-/// A function of an array or of bytes and a buffer, as `bytes::functions` has it.
+/// A function of an array or of bytes and a buffer, as the plain reading has it.
 macro_rules! exported {
     ($exported:ident($given:ty, $taken:ty) = $function:expr) => {
         /// # Safety
@@ -91,13 +91,13 @@ macro_rules! exported {
     };
 }
 
-exported!(kuxhoveza_write_sheet(u32, u8) = functions::write_sheet);
-exported!(kuxhoveza_read_sheet(u8, u32) = functions::read_sheet);
-exported!(kuxhoveza_write_run(u64, u8) = functions::write_run);
-exported!(kuxhoveza_read_run(u8, u64) = functions::read_run);
-exported!(kuxhoveza_write_event(u64, u8) = functions::write_event);
-exported!(kuxhoveza_read_event(u8, u64) = functions::read_event);
-exported!(kuxhoveza_call(u8, u8) = |from, to| functions::call(boundary::transition, from, to));
+exported!(kuxhoveza_write_sheet(u32, u8) = bytes::write_sheet);
+exported!(kuxhoveza_read_sheet(u8, u32) = bytes::read_sheet);
+exported!(kuxhoveza_write_run(u64, u8) = bytes::write_run);
+exported!(kuxhoveza_read_run(u8, u64) = bytes::read_run);
+exported!(kuxhoveza_write_event(u64, u8) = bytes::write_event);
+exported!(kuxhoveza_read_event(u8, u64) = bytes::read_event);
+exported!(kuxhoveza_call(u8, u8) = bytes::call);
 
 /// # Safety
 ///
@@ -119,5 +119,5 @@ pub unsafe extern "C" fn kuxhoveza_call_on(
             slice::from_raw_parts_mut(answer, answer_len),
         )
     };
-    functions::call_on(boundary::transition, sheet, bytes, answer)
+    boundary::bytes::call_on(sheet, bytes, answer)
 }
