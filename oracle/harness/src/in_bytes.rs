@@ -300,19 +300,26 @@ struct Comparison {
     rng: Rng,
     counts: Counts,
     differences: u64,
+    /// Ends at the first difference.
+    first: bool,
     /// Where it is, for what it prints.
     place: String,
 }
 
 impl Comparison {
-    fn new(seed: u64) -> Comparison {
+    fn new(seed: u64, first: bool) -> Comparison {
         Comparison {
             sides: Sides::new(),
             rng: Rng::new(seed),
             counts: Counts::new(),
             differences: 0,
+            first,
             place: String::new(),
         }
+    }
+
+    fn is_over(&self) -> bool {
+        self.first && self.differences > 0
     }
 
     fn count(&mut self, key: String) {
@@ -345,7 +352,7 @@ impl Comparison {
         }
     }
 
-    /// What is returned for bytes, with a buffer of that length. A difference is made small.
+    /// What is returned for bytes, with a buffer of that length. A difference that is printed is made small.
     fn take(&mut self, it: Taking, bytes: &[u8], room: usize) -> Option<u64> {
         match self.sides.take(it, bytes, room) {
             Ok(said) => {
@@ -354,7 +361,10 @@ impl Comparison {
                 Some(said)
             }
             Err(_) => {
-                let small = shrunk(bytes, |bytes| self.sides.take(it, bytes, room).is_err());
+                let small = match self.differences < PRINTED {
+                    true => shrunk(bytes, |bytes| self.sides.take(it, bytes, room).is_err()),
+                    false => bytes.to_vec(),
+                };
                 let parted = self.sides.take(it, &small, room).err().expect("it parts");
                 self.difference(|| {
                     let name = it.name();
@@ -545,6 +555,9 @@ impl Comparison {
 
     /// Damaged bytes: 31 or something else, as the decoder says.
     fn damaged(&mut self, it: Taking, damage: Damage, bytes: &[u8]) {
+        if self.is_over() {
+            return;
+        }
         if let Some(said) = self.take(it, bytes, it.room()) {
             let what = match raw::parts(said).0 as usize {
                 BAD_BYTES => "bad",
@@ -566,7 +579,7 @@ impl Comparison {
     }
 
     /// A seed of the generator's calls.
-    fn seed(&mut self, seed: u64, calls: u64, damaged: u64, first: bool) {
+    fn seed(&mut self, seed: u64, calls: u64, damaged: u64) {
         let mut generator = Generator::of_all_lengths(seed);
         let mut before = vec![0];
         let mut left = damaged;
@@ -587,7 +600,7 @@ impl Comparison {
                 generator.answered(&call, &answer);
             }
             before = made.whole;
-            if first && self.differences > 0 {
+            if self.is_over() {
                 break;
             }
         }
@@ -616,6 +629,9 @@ impl Comparison {
     /// A part of the sample: its answers in bytes, every cut of its calls.
     fn recorded(&mut self, recorded: &[(Call, Answer)], part: usize) {
         for (n, (call, answer)) in recorded.iter().enumerate().skip(part).step_by(PARTS) {
+            if self.is_over() {
+                break;
+            }
             self.place = format!("call {n} of the sample");
             let made = Made::of(call);
             self.call(&made);
@@ -696,13 +712,13 @@ pub fn run(seeds: &[u64], calls: u64, damaged: u64, first: bool) -> Result<bool,
         if first && total.lock().unwrap().1 > 0 {
             return;
         }
-        let mut comparison = Comparison::new(n as u64);
+        let mut comparison = Comparison::new(n as u64, first);
         match (n.checked_sub(cases), n.checked_sub(cases + PARTS)) {
             (None, _) => comparison.joint(n),
             (Some(part), None) => comparison.recorded(&recorded, part),
             (_, Some(i)) => {
                 comparison.rng = Rng::new(seeds[i]);
-                comparison.seed(seeds[i], calls, damaged, first);
+                comparison.seed(seeds[i], calls, damaged);
             }
         }
         let mut total = total.lock().unwrap();
