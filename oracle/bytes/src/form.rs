@@ -19,16 +19,18 @@ fn fields(pass: &mut impl Pass, numbers: &mut [u64], most: &[u64]) -> Option<()>
     Some(())
 }
 
-/// As many rows as a count says, and no more than there are.
+/// As many rows as a count says.
 fn rows<const WIDTH: usize>(
     pass: &mut impl Pass,
     numbers: &mut [u64],
     count: u64,
     most: [u64; WIDTH],
 ) -> Option<()> {
+    let capacity = (numbers.len() / WIDTH) as u64;
     for (_, row) in (0..count).zip(numbers.chunks_exact_mut(WIDTH)) {
         fields(pass, row, &most)?;
     }
+    pass.beyond(count.saturating_sub(capacity).saturating_mul(WIDTH as u64));
     Some(())
 }
 
@@ -76,10 +78,11 @@ pub fn sheet(pass: &mut impl Pass, sheet: &mut [u32; SHEET]) -> Option<()> {
         (SHEET_DECLARED_ACTION, SHEET_DECLARED_COUNT, DECLARED),
         (SHEET_DECLARED_OUTCOME, SHEET_DECLARED_COUNT, DECLARED),
     ] {
-        let used = capacity.min(sheet[count] as usize);
-        for number in &mut sheet[first..][..used] {
+        let count = sheet[count] as usize;
+        for number in &mut sheet[first..][..capacity.min(count)] {
             number_32(pass, number, SMALL)?;
         }
+        pass.beyond(count.saturating_sub(capacity) as u64);
     }
     Some(())
 }

@@ -12,6 +12,9 @@ use calls::numbers;
 trait Pass {
     /// None where there is no such number.
     fn field(&mut self, number: &mut u64, most: u64) -> Option<()>;
+
+    /// So many numbers that a count says and that have no place.
+    fn beyond(&mut self, _: u64) {}
 }
 
 /// Stands on bytes and moves along them.
@@ -48,7 +51,7 @@ impl Pass for Reader<'_> {
     }
 }
 
-/// Writes what a field holds; unheld, it writes other numbers too.
+/// Writes what a field holds; unheld, it writes other numbers too, and zeros for rows that have no place.
 #[derive(Default)]
 struct Writer {
     bytes: Vec<u8>,
@@ -63,7 +66,17 @@ impl Pass for Writer {
         write_number(&mut self.bytes, *number);
         Some(())
     }
+
+    fn beyond(&mut self, numbers: u64) {
+        if self.unheld {
+            let zeros = numbers.min(MOST_BEYOND) as usize;
+            self.bytes.resize(self.bytes.len() + zeros, 0);
+        }
+    }
 }
+
+/// Zeros that are written at most for one count.
+const MOST_BEYOND: u64 = 100;
 
 pub fn write_number(bytes: &mut Vec<u8>, number: u64) {
     let mut left = number;
@@ -160,13 +173,27 @@ pub fn read_call(bytes: &[u8], with_sheet: bool) -> Option<Call> {
     Some(call)
 }
 
-/// A call's bytes. Where a number is above what its field holds it is written all the same, with as many rows as there are.
+/// A call's bytes. Where a number is above what its field holds it is written all the same, and where it is a count its rows
+/// too.
 pub fn write_call(call: &Call) -> Vec<u8> {
+    any(|writer| form::call(writer, &mut call.clone()))
+}
+
+/// The same of a sheet, and of a run.
+pub fn write_any_sheet(sheet: &[u32; SHEET]) -> Vec<u8> {
+    any(|writer| form::sheet(writer, &mut sheet.clone()))
+}
+
+pub fn write_any_run(run: &[u64; RECORD]) -> Vec<u8> {
+    any(|writer| form::run(writer, &mut run.clone()))
+}
+
+fn any(go: impl FnOnce(&mut Writer) -> Option<()>) -> Vec<u8> {
     let mut writer = Writer {
         unheld: true,
         ..Writer::default()
     };
-    form::call(&mut writer, &mut call.clone()).expect("any number is written");
+    go(&mut writer).expect("any number is written");
     writer.bytes
 }
 

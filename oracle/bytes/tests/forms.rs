@@ -167,6 +167,16 @@ fn unfit_runs() {
     }
 }
 
+/// A count above its capacity is bad, also where all its rows are there.
+#[test]
+fn counted_rows() {
+    let mut call = used();
+    let whole = write_call(&call).len();
+    call.call[CALL_ANSWERED] = 3;
+    assert_eq!(write_call(&call).len(), whole + MAPPING_WIDTH);
+    assert!(read_call(&write_call(&call), false).is_none());
+}
+
 #[test]
 fn calls_and_answers() {
     for case in joint::cases() {

@@ -5,6 +5,8 @@ use generator::rng::{Rng, EDGES, LONG_EDGES};
 /// What was done to the bytes.
 #[derive(Debug, Clone, Copy, PartialEq, Eq, PartialOrd, Ord)]
 pub enum Damage {
+    /// It is made from a call's numbers.
+    Counted,
     Changed,
     Cut,
     Inserted,
@@ -18,7 +20,7 @@ pub enum Damage {
 }
 
 impl Damage {
-    pub const ALL: [Damage; 10] = [
+    pub const AT_RANDOM: [Damage; 10] = [
         Damage::Changed,
         Damage::Cut,
         Damage::Inserted,
@@ -33,6 +35,7 @@ impl Damage {
 
     pub fn text(self) -> &'static str {
         match self {
+            Damage::Counted => "a count above its capacity, with its rows",
             Damage::Changed => "a byte changed",
             Damage::Cut => "cut",
             Damage::Inserted => "a byte inserted",
@@ -50,6 +53,7 @@ impl Damage {
     pub fn at_random(self, rng: &mut Rng, bytes: &[u8], other: &[u8]) -> Vec<u8> {
         let place = rng.below(bytes.len());
         match self {
+            Damage::Counted => unreachable!("{self:?} is made of numbers"),
             Damage::Changed => {
                 let mut changed = bytes.to_vec();
                 for _ in 0..1 + rng.weighted(&[80, 15, 5]) {

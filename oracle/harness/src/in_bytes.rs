@@ -10,9 +10,10 @@ use std::sync::Mutex;
 
 use bytes::functions;
 use calls::layout::{
-    ANSWER, ANSWER_BYTES, BAD_BYTES, CALL, CALL_BYTES, CALL_MAPPINGS, CALL_SEQUENCE, EVENT,
-    EVENT_BYTES, MAPPINGS, MAPPING_WIDTH, RECORD, RUN_BYTES, SHEET, SHEET_BYTES,
-    SHEET_DECLARED_COUNT, SHEET_NODE_COUNT,
+    ACTIONS, ANSWER, ANSWER_BYTES, BAD_BYTES, CALL, CALL_ANSWERED, CALL_BYTES, CALL_MAPPINGS,
+    CALL_SEQUENCE, DECLARED, EVENT, EVENT_BYTES, LIMITS, MAPPINGS, MAPPING_WIDTH, NODES, RECORD,
+    RECORD_STORED, ROUTES, RUN_BYTES, SHEET, SHEET_BYTES, SHEET_DECLARED_COUNT, SHEET_NODE_COUNT,
+    STORE,
 };
 use calls::{numbers, Answer, Call};
 use generator::fields::{Array, FIELDS};
@@ -239,6 +240,7 @@ struct Made {
     run: Option<[u64; RECORD]>,
     event: [u64; EVENT],
     /// The whole call, and the call without its sheet.
+    numbers: bytes::Call,
     whole: Vec<u8>,
     rest: Vec<u8>,
     /// Whether the call's bytes have all its numbers but mapping answers behind their count, which nothing reads.
@@ -263,8 +265,10 @@ impl Made {
         it.call[CALL_MAPPINGS + answered..].fill(0);
         let whole = bytes::write_call(&it);
         let exact = bytes::read_call(&whole, true).is_some_and(|read| read == it);
+        let all = it.clone();
         it.sheet = None;
         Made {
+            numbers: all,
             sheet,
             run: call.state.as_ref().map(|_| record),
             event: numbers[CALL_SEQUENCE..][..EVENT]
@@ -567,12 +571,37 @@ impl Comparison {
         }
     }
 
+    /// Each count of the call above its capacity, with the rows that it says.
+    fn overcounted(&mut self, made: &Made) {
+        for place in SHEET_NODE_COUNT..=SHEET_DECLARED_COUNT {
+            let mut more = made.numbers.clone();
+            let capacity = [NODES, ROUTES, LIMITS, ACTIONS, DECLARED][place - SHEET_NODE_COUNT];
+            let sheet = more.sheet.as_mut().expect("a whole call");
+            sheet[place] = capacity as u32 + 1 + self.rng.small(3);
+            let bytes = bytes::write_call(&more);
+            self.damaged(Taking::Call, Damage::Counted, &bytes);
+            let sheet = more.sheet.as_ref().expect("a whole call");
+            let bytes = bytes::write_any_sheet(sheet);
+            self.damaged(Taking::Sheet, Damage::Counted, &bytes);
+        }
+        let mut more = made.numbers.clone();
+        more.sheet = None;
+        more.call[CALL_ANSWERED] = 3 + self.rng.below(3) as u64;
+        let bytes = bytes::write_call(&more);
+        self.damaged(Taking::CallOn(&made.sheet[..]), Damage::Counted, &bytes);
+        if let Some(mut run) = made.run {
+            run[RECORD_STORED] = STORE as u64 + 1 + self.rng.below(3) as u64;
+            let bytes = bytes::write_any_run(&run);
+            self.damaged(Taking::Run, Damage::Counted, &bytes);
+        }
+    }
+
     /// So many damaged inputs at random, of a call's parts.
     fn damaged_at_random(&mut self, made: &Made, other: &[u8], count: u64) {
         let inputs = made.inputs();
         for _ in 0..count {
             let (it, bytes) = &inputs[self.rng.below(inputs.len())];
-            let damage = self.rng.pick(&Damage::ALL);
+            let damage = self.rng.pick(&Damage::AT_RANDOM);
             let bytes = damage.at_random(&mut self.rng, bytes, other);
             self.damaged(*it, damage, &bytes);
         }
@@ -590,6 +619,7 @@ impl Comparison {
             self.call(&made);
             if self.rng.one_in(2) {
                 self.unwritten(&made);
+                self.overcounted(&made);
             }
             let count = left / (calls + 1 - n);
             left -= count;
@@ -615,6 +645,7 @@ impl Comparison {
         let made = Made::of(&case.call);
         self.call(&made);
         self.answered(&made, &case.expected);
+        self.overcounted(&made);
         for (it, bytes) in made.inputs() {
             let others = match bytes.len() <= SMALL {
                 true => u8::MAX,
@@ -694,7 +725,7 @@ fn required() -> Vec<String> {
         says(name, &refusals);
     }
     says("call_on", &[4]);
-    for damage in Damage::ALL {
+    for damage in Damage::AT_RANDOM.into_iter().chain([Damage::Counted]) {
         required.push(format!("damaged: {}, bad", damage.text()));
     }
     required
