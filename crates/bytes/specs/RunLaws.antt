@@ -299,13 +299,13 @@ module _ (xs : List ℕ) (at : ℕ) (room : at + layout.record-length ≤ length
       let e : at + layout.record-visits ≡ at + layout.record-signals + layout.signal-width * min stored layout.store = omega arith in
       take-all used signals (omega arith) ∙ rw e)
 
-  pub run-first : Bytes-first (bytes-of (run .fields (part xs at (at + layout.record-length)))) head-bytes visits-left
-  run-first =
+  pub run-first : {end : ℕ} → end ≡ layout.record-signals + layout.signal-width * min stored layout.store → Bytes-first (bytes-of (run .fields (part xs at (at + layout.record-length)))) (bytes-of (part xs at (at + end))) visits-left
+  run-first ends =
       let k = layout.signal-width * min stored layout.store in
       let more = part xs (at + layout.record-signals) (at + layout.record-signals + k) in
       let whole = part xs at (at + (layout.record-signals + k)) in
       let s : head ++ more ≡ whole = rw (part-front xs at layout.record-signals k, part-back xs at layout.record-signals k) at (take-append-drop layout.record-signals whole) in
-      record { is = parts-written ∙ rw (stored-part, ← s, bytes-append head more) (sym (append-assoc (bytes-of head) (bytes-of more) visits-left)) }
+      record { is = parts-written ∙ rw (ends, stored-part, ← s, bytes-append head more) (sym (append-assoc (bytes-of head) (bytes-of more) visits-left)) }
 
   pub visits-first : Bytes-first visits-left visits-bytes streaks-left
   visits-first = record { is = refl }
@@ -318,7 +318,7 @@ module _ (xs : List ℕ) (at : ℕ) (room : at + layout.record-length ≤ length
 
   -- HOW MANY.
   pub run-sizes : length head-bytes + length visits-bytes + length streaks-bytes + length results-bytes ≡ length (bytes-of (run .fields (part xs at (at + layout.record-length))))
-  run-sizes = rw (run-first .is, length-append, length-append, length-append, length-append) (omega arith)
+  run-sizes = rw (run-first refl .is, length-append, length-append, length-append, length-append) (omega arith)
 
   pub run-few : length (bytes-of (run .fields (part xs at (at + layout.record-length)))) ≤ 10 * layout.record-length
   run-few =
