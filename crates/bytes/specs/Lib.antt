@@ -8,4 +8,6 @@ pub mod Boundary
 pub mod CallStored
 -- laws
 pub mod SheetLaws
+pub mod StagesLoops
+pub mod RunLaws
 pub mod BoundaryLaws
