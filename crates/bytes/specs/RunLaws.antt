@@ -22,9 +22,9 @@ use Rattle.codec.specs.StoredLaws.{at-bad}
 use Rattle.codec.specs.Loops.{Bytes-first}
 use Rattle.codec.specs.NumbersLaws.{numbers-exact}
 use Rattle.codec.specs.Parts.{part-long, part-front, part-back, part-below}
-use Rattle.codec.specs.PartLaws.{bytes-few, part-few, getD-part, length-part}
+use Rattle.codec.specs.PartLaws.{part-few, getD-part, length-part}
 use Rattle.codec.specs.SlotsLaws.{slots-width, slots-exact}
-use Rattle.codec.specs.ColumnsLaws.{column-exact, Stage-exact, staged-width, staged-exact}
+use Rattle.codec.specs.ColumnsLaws.{column-exact, Stage-exact, staged-width, staged-exact, bytes-few}
 use Rattle.codec.specs.ColumnsLoops.{column-over, column-place, column-stored, used-part, column-neat, column-crowded}
 use Rattle.host.specs.Layout as layout
 use Rattle.bytes.specs.Run.{single-numbers, stored-signals, all-visits, all-streaks, all-results, run}
