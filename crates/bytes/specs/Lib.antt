@@ -8,3 +8,5 @@ pub mod Boundary
 pub mod CallStored
 -- laws
 pub mod BoundaryLaws
+pub mod StagesLoops
+pub mod RunLaws
