@@ -77,11 +77,11 @@ module _ {stage : Stage} {stages : List Stage} {bytes : List ℕ} {whole : Read 
       }
 
 module _ {bytes : List ℕ} {whole : Read (List ℕ)} {before : List ℕ} {at i : ℕ} {list : List ℕ} (inv : Reading-stages [] bytes whole before at i list) where
-  pub stages-place : Place.At at ≡ place-of whole
+  stages-place : Place.At at ≡ place-of whole
   unfolding staged
   stages-place = reading-place (inv .reading) refl
 
-  pub stages-stored : Stored whole before 0 list
+  stages-stored : Stored whole before 0 list
   unfolding staged
   stages-stored = reading-stored (inv .reading) refl
 
