@@ -11,3 +11,5 @@ pub mod SheetLaws
 pub mod StagesLoops
 pub mod RunLaws
 pub mod BoundaryLaws
+pub mod StagesLoops
+pub mod RunLaws

@@ -1,7 +1,7 @@
 -- A run as bytes: both ways; and its stages in a lent list.
 use mathlib.Core.Path.{_≡_, refl, sym, ap, _∙_}
 use mathlib.Core.Bool.{Bool, true, false, _&&_}
-use mathlib.Core.List.{List, [], _∷_, _++_, append-assoc, append-nil}
+use mathlib.Core.List.{List, [], _∷_, _++_, append-assoc}
 use Prim.Native.Nat.{ℕ, zero, suc, _+_, _*_, _-_, _^_, _≤_, _<_, min}
 use native.Mathlib.Nat.{mul-suc}
 use native.Mathlib.Omega.{arith}
@@ -18,7 +18,6 @@ use Rattle.codec.specs.Stages.{Stage, widths, numbers, column, beside, all-zero
 use Rattle.codec.specs.Slots.{slot, slots}
 use Rattle.codec.specs.Stored.{place-of, Stored}
 use Rattle.codec.specs.Exact.{Bytes, Exact, bytes-append}
-use Rattle.codec.specs.StoredLaws.{at-bad}
 use Rattle.codec.specs.Loops.{Bytes-first}
 use Rattle.codec.specs.NumbersLaws.{numbers-exact}
 use Rattle.codec.specs.Parts.{part-long, part-front, part-back, part-below}
@@ -28,7 +27,7 @@ use Rattle.codec.specs.ColumnsLaws.{column-exact, Stage-exact, staged-width, st
 use Rattle.codec.specs.ColumnsLoops.{column-over, column-place, column-stored, used-part, column-neat, column-crowded}
 use Rattle.host.specs.Layout as layout
 use Rattle.bytes.specs.Run.{single-numbers, stored-signals, all-visits, all-streaks, all-results, run}
-use Rattle.bytes.specs.StagesLoops.{Reading-stages, stages-start, stages-seen, stage-room, stage-bad, stage-more, stages-neat, stages-written, no-stage-neat, no-stage-written}
+use Rattle.bytes.specs.StagesLoops.{Reading-stages, stages-start, stages-seen, stage-room, stage-bad, stage-refused, stage-more, stages-neat, stages-written, no-stage-neat, no-stage-written}
 
 -- THE STAGES, each exact.
 numbers-stage : (k : ℕ) → Stage-exact (record { room = k; shape = λ _. numbers (2 ^ 64) k })
@@ -42,16 +41,16 @@ signals-stage = record { exact = λ seen. column-exact (2 ^ 64) (layout.signal-w
 slots-stage : (before after k room : ℕ) → room ≡ (before + suc after) * k → Stage-exact (record { room = room; shape = λ _. slots (2 ^ 64) before after k })
 slots-stage before after k room e = record { exact = λ _. slots-exact (2 ^ 64) before after k (omega arith); wide = λ _. slots-width (2 ^ 64) before after k ∙ sym e }
 
-abbrev pub from-results : List Stage
+abbrev from-results : List Stage
 from-results = all-results ∷ []
 
-abbrev pub from-streaks : List Stage
+abbrev from-streaks : List Stage
 from-streaks = all-streaks ∷ from-results
 
-abbrev pub from-visits : List Stage
+abbrev from-visits : List Stage
 from-visits = all-visits ∷ from-streaks
 
-abbrev pub from-signals : List Stage
+abbrev from-signals : List Stage
 from-signals = stored-signals ∷ from-visits
 
 pub results-exact : All Stage-exact from-results
@@ -63,7 +62,7 @@ streaks-exact = (slots-stage 1 0 layout.nodes (layout.streak-width * layout.node
 pub visits-exact : All Stage-exact from-visits
 visits-exact = (numbers-stage layout.nodes, streaks-exact)
 
-pub signals-exact : All Stage-exact from-signals
+signals-exact : All Stage-exact from-signals
 signals-exact = (signals-stage, visits-exact)
 
 pub head-exact : All Stage-exact (single-numbers ∷ from-signals)
@@ -90,7 +89,7 @@ run-start bytes before start blank =
 module _ {k : ℕ} {stages : List Stage} {bytes : List ℕ} {whole : Read (List ℕ)} {before : List ℕ} {at i : ℕ} {list : List ℕ} (exact : All Stage-exact (record { room = k; shape = λ _. numbers (2 ^ 64) k } ∷ stages)) (inv : Reading-stages (record { room = k; shape = λ _. numbers (2 ^ 64) k } ∷ stages) bytes whole before at i list) {z : Place} (answer : z ≡ place-of (numbers-at (2 ^ 64) k bytes at)) where
   pub numbers-bad : z ≡ Place.Bad → whole ≡ bad
   unfolding numbers
-  numbers-bad b = stage-bad exact inv (at-bad answer b)
+  numbers-bad b = stage-refused exact inv answer b
 
   pub numbers-more : {p : ℕ} {after : List ℕ} → Bytes bytes → z ≡ Place.At p → Stored (numbers-at (2 ^ 64) k bytes at) list i after → Reading-stages stages bytes whole before p (i + k) after
   unfolding numbers
@@ -123,7 +122,7 @@ module _ {bytes : List ℕ} {whole : Read (List ℕ)} {before : List ℕ} {at : 
     answered = column-place (2 ^ 64) (layout.signal-width * layout.store) used bytes at low-used (rw many at answer)
 
     pub signals-bad : z ≡ Place.Bad → whole ≡ bad
-    signals-bad b = stage-bad signals-exact inv (at-bad answered b)
+    signals-bad b = stage-refused signals-exact inv answered b
 
     pub signals-more : {p : ℕ} {after : List ℕ} → Bytes bytes → z ≡ Place.At p → Stored (numbers-at (2 ^ 64) (end - layout.record-signals) bytes at) list layout.record-signals after → Reading-stages from-visits bytes whole before p layout.record-visits after
     signals-more good e s =
@@ -160,7 +159,7 @@ module _ (top before after : ℕ) where
       let b = slots-few k (drop (before + suc after) ns) (omega arith) in
       rw length-append (omega arith)
 
-  pub slots-bytes-few : (k : ℕ) (xs : List ℕ) (i : ℕ) → length (bytes-of (slots top before after k .fields (part xs i (i + (before + suc after) * k)))) ≤ 10 * ((before + suc after) * k)
+  slots-bytes-few : (k : ℕ) (xs : List ℕ) (i : ℕ) → length (bytes-of (slots top before after k .fields (part xs i (i + (before + suc after) * k)))) ≤ 10 * ((before + suc after) * k)
   unfolding part
   slots-bytes-few k xs i =
       let ns = part xs i (i + (before + suc after) * k) in
@@ -257,10 +256,10 @@ module _ (xs : List ℕ) (at : ℕ) (room : at + layout.record-length ≤ length
   abbrev results-bytes : List ℕ
   results-bytes = bytes-of (slots (2 ^ 64) 2 3 layout.nodes .fields (part xs (at + layout.record-results) (at + layout.record-results + layout.result-width * layout.nodes)))
 
-  abbrev pub streaks-left : List ℕ
+  abbrev streaks-left : List ℕ
   streaks-left = streaks-bytes ++ (results-bytes ++ [])
 
-  abbrev pub visits-left : List ℕ
+  abbrev visits-left : List ℕ
   visits-left = visits-bytes ++ streaks-left
 
   parts-written : bytes-of (run .fields (part xs at (at + layout.record-length))) ≡ bytes-of head ++ (bytes-of (stored-signals .shape head .fields signals) ++ visits-left)

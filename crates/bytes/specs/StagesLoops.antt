@@ -1,20 +1,20 @@
 -- Stages one behind the other in a lent list: read, tested and written.
 use mathlib.Core.Path.{_≡_, refl, sym, ap, _∙_}
-use mathlib.Core.Bool.{Bool, true}
+use mathlib.Core.Bool.{true}
 use mathlib.Core.List.{List, [], _∷_, _++_}
-use Prim.Native.Nat.{ℕ, _+_, _-_, _≤_, _<_}
+use Prim.Native.Nat.{ℕ, _+_, _≤_, _<_}
 use native.Mathlib.Omega.{arith}
 use lib.ListN.{length, getD, drop, length-append, List·getD-append}
 use Rattle.laws.specs.All.{All}
 use Rattle.laws.specs.Bool.{_and_}
 use Rattle.laws.specs.Splice.{splice, splice-none, splice-more}
 use Rattle.codec.specs.declared.numbers.Place.{Place}
-use Rattle.codec.specs.Read.{Read, bad}
+use Rattle.codec.specs.Read.{Read, got, bad}
 use Rattle.codec.specs.Numbers.{bytes-of, part}
 use Rattle.codec.specs.Stages.{Stage, widths, staged}
 use Rattle.codec.specs.Stored.{place-of, Stored, Zero-from}
 use Rattle.codec.specs.Exact.{Bytes}
-use Rattle.codec.specs.StoredLaws.{at-got}
+use Rattle.codec.specs.StoredLaws.{at-got, at-bad, bad-place, bad-stored}
 use Rattle.codec.specs.ColumnsLaws.{Stage-exact, staged-width}
 use Rattle.codec.specs.ShapesLoops.{Reading-shapes, reading-start, reading-long, reading-room, reading-bad, reading-more, reading-place, reading-stored, neat, written, neat-next, neat-none, written-next, written-none}
 
@@ -53,6 +53,9 @@ module _ {stage : Stage} {stages : List Stage} {bytes : List ℕ} {whole : Read 
   unfolding staged
   stage-bad e = reading-bad (inv .reading) (stage .shape (inv .seen)) (λ ns. staged stages (inv .seen ++ ns)) (widths stages) refl e
 
+  pub stage-refused : {z : Place} → z ≡ place-of (stage .shape (inv .seen) .read bytes at) → z ≡ Place.Bad → whole ≡ bad
+  stage-refused answer e = stage-bad (at-bad answer e)
+
   pub stage-more : {z : Place} {p : ℕ} {after : List ℕ} → Bytes bytes → z ≡ place-of (stage .shape (inv .seen) .read bytes at) → z ≡ Place.At p → Stored (stage .shape (inv .seen) .read bytes at) list i after → Reading-stages stages bytes whole before p (i + stage .room) after
   unfolding staged
   stage-more {z} {p} {after} good answer e s =
@@ -74,13 +77,28 @@ module _ {stage : Stage} {stages : List Stage} {bytes : List ℕ} {whole : Read 
       }
 
 module _ {bytes : List ℕ} {whole : Read (List ℕ)} {before : List ℕ} {at i : ℕ} {list : List ℕ} (inv : Reading-stages [] bytes whole before at i list) where
-  pub stages-place : Place.At at ≡ place-of whole
+  stages-place : Place.At at ≡ place-of whole
   unfolding staged
   stages-place = reading-place (inv .reading) refl
 
-  pub stages-stored : Stored whole before 0 list
+  stages-stored : Stored whole before 0 list
   unfolding staged
   stages-stored = reading-stored (inv .reading) refl
+
+-- The last stage, whatever came of it.
+module _ {stage : Stage} {bytes : List ℕ} {whole : Read (List ℕ)} {before : List ℕ} {at i : ℕ} {list : List ℕ} (exact : All Stage-exact (stage ∷ [])) (inv : Reading-stages (stage ∷ []) bytes whole before at i list) {z : Place} {after : List ℕ} (good : Bytes bytes) (answer : z ≡ place-of (stage .shape (inv .seen) .read bytes at)) (s : Stored (stage .shape (inv .seen) .read bytes at) list i after) where
+  by-read : (r : Read (List ℕ)) → stage .shape (inv .seen) .read bytes at ≡ r → (z ≡ place-of whole) × Stored whole before 0 after
+  unfolding place-of
+  by-read bad e =
+      let b = stage-bad exact inv e in
+      (answer ∙ ap place-of e ∙ bad-place b, bad-stored b (s .long ∙ stages-long inv))
+  by-read (got ns p) e =
+      let a : z ≡ Place.At p = answer ∙ ap place-of e in
+      let m = stage-more exact inv good answer a s in
+      (a ∙ stages-place m, stages-stored m)
+
+  pub last-stage : (z ≡ place-of whole) × Stored whole before 0 after
+  last-stage = by-read (stage .shape (inv .seen) .read bytes at) refl
 
 -- STAGES IN A LIST, the first of them from i up to j: whether they are tidy, and their bytes.
 module _ (xs : List ℕ) (stage : Stage) (stages : List Stage) (seen : List ℕ) (i j : ℕ) (exact : All Stage-exact (stage ∷ stages)) (next : j ≡ i + stage .room) where

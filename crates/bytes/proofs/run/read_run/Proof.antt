@@ -1,118 +1,135 @@
+use mathlib.Core.Path.{_∙_}
+use native.Mathlib.Omega.{arith}
+use Rattle.codec.specs.Exact.{Bytes}
+use Rattle.codec.specs.StoredLaws.{bad-place, bad-stored}
+use Rattle.bytes.specs.StagesLoops.{stages-long, stage-room, stage-refused, stage-more, last-stage}
+use Rattle.bytes.specs.RunLaws.{head-exact, visits-exact, streaks-exact, results-exact, run-start, numbers-bad, numbers-more, signals-over, signals-bad, signals-more}
 use borrow.Author.Needs.{needs}
 use Rattle.bytes.proofs.run.read_run.Statement.{statement}
 use Rattle.bytes.proofs.run.read_run.Tie as tie
-use Rattle.bytes.proofs.run.read_run.Reads as reads
-use Rattle.bytes.proofs.run.read_run.Lts as lts
-use Rattle.bytes.proofs.run.stored_end.Reads as stored-end-reads
-use Rattle.codec.proofs.numbers.read_longs.Reads as read-longs-reads
-use Rattle.codec.proofs.slots.read_slots.Reads as read-slots-reads
 
--- src/run.rt:48:9
-read-longs-requires : tie.Need-read-longs-requires
-read-longs-requires c κs = search needs
-
--- src/run.rt:49:19
-enum-known-head : tie.Need-enum-known-head
-enum-known-head c = search needs
-
--- src/run.rt:50:9
-enum-told : tie.Need-enum-told
-enum-told c = search needs
-
--- src/run.rt:50:9
 returns : tie.Need-returns
-returns c = ?
+returns c =
+    let r1 = c .before .before in
+    let s = r1 .before .before .before in
+    let i0 = run-start (s .args .bytes .now) (s .args .r .now) (s .args .start) (s .pre) in
+    let o = numbers-bad head-exact i0 (r1 .read-longs .ensures .0) (c .enum-told .given .1) in
+    (bad-place o, bad-stored o (r1 .read-longs .ensures .1 .long ∙ stages-long i0))
 
--- src/run.rt:52:18
-element-copy-out-stored : tie.Need-element-copy-out-stored
-element-copy-out-stored c = search needs
-
--- src/run.rt:54:9
 returns-2 : tie.Need-returns-2
-returns-2 c = ?
+returns-2 c =
+    let r1 = c .before .before .before .before .before in
+    let s = r1 .before .before .before in
+    let good : Bytes (s .args .bytes .now) = record { each = λ n. omega (arith, r1 .before .before .shared-slice-known .given n) } in
+    let i0 = run-start (s .args .bytes .now) (s .args .r .now) (s .args .start) (s .pre) in
+    let i1 = numbers-more head-exact i0 (r1 .read-longs .ensures .0) good (c .before .before .before .head .given .1) (r1 .read-longs .ensures .1) in
+    let o = signals-over i1 (c .if1 .taken) in
+    (bad-place o, bad-stored o (stages-long i1))
 
--- src/run.rt:56:71
-stored-end-requires : tie.Need-stored-end-requires
-stored-end-requires c κs = search needs
-
--- src/run.rt:56:9
-read-longs-requires-2 : tie.Need-read-longs-requires-2
-read-longs-requires-2 c κs = search needs
-
--- src/run.rt:57:19
-enum-known-signals : tie.Need-enum-known-signals
-enum-known-signals c = search needs
-
--- src/run.rt:58:9
-enum-told-2 : tie.Need-enum-told-2
-enum-told-2 c = search needs
-
--- src/run.rt:58:9
 returns-3 : tie.Need-returns-3
-returns-3 c = ?
+returns-3 c =
+    let r2 = c .before .before in
+    let r1 = r2 .before .before .before .before .before .before .before .before in
+    let s = r1 .before .before .before in
+    let good : Bytes (s .args .bytes .now) = record { each = λ n. omega (arith, r1 .before .before .shared-slice-known .given n) } in
+    let i0 = run-start (s .args .bytes .now) (s .args .r .now) (s .args .start) (s .pre) in
+    let i1 = numbers-more head-exact i0 (r1 .read-longs .ensures .0) good (r2 .before .before .before .before .before .before .head .given .1) (r1 .read-longs .ensures .1) in
+    let o = signals-bad i1 (r2 .before .before .before .if1 .left) (r2 .before .stored-end .ensures) (r2 .read-longs2 .ensures .0) (c .enum-told2 .given .1) in
+    (bad-place o, bad-stored o (r2 .read-longs2 .ensures .1 .long ∙ stages-long i1))
 
--- src/run.rt:60:9
-read-longs-requires-3 : tie.Need-read-longs-requires-3
-read-longs-requires-3 c κs = search needs
-
--- src/run.rt:67:19
-enum-known-visits : tie.Need-enum-known-visits
-enum-known-visits c = search needs
-
--- src/run.rt:68:9
-enum-told-3 : tie.Need-enum-told-3
-enum-told-3 c = search needs
-
--- src/run.rt:68:9
 returns-4 : tie.Need-returns-4
-returns-4 c = ?
+returns-4 c =
+    let r3 = c .before .before in
+    let r2 = r3 .before .before .before .before .before in
+    let r1 = r2 .before .before .before .before .before .before .before .before in
+    let s = r1 .before .before .before in
+    let good : Bytes (s .args .bytes .now) = record { each = λ n. omega (arith, r1 .before .before .shared-slice-known .given n) } in
+    let i0 = run-start (s .args .bytes .now) (s .args .r .now) (s .args .start) (s .pre) in
+    let i1 = numbers-more head-exact i0 (r1 .read-longs .ensures .0) good (r2 .before .before .before .before .before .before .head .given .1) (r1 .read-longs .ensures .1) in
+    let i2 = signals-more i1 (r2 .before .before .before .if1 .left) (r2 .before .stored-end .ensures) (r2 .read-longs2 .ensures .0) good (r3 .before .before .before .signals .given .1) (r2 .read-longs2 .ensures .1) in
+    let o = numbers-bad visits-exact i2 (r3 .read-longs3 .ensures .0) (c .enum-told3 .given .1) in
+    (bad-place o, bad-stored o (r3 .read-longs3 .ensures .1 .long ∙ stages-long i2))
 
--- src/run.rt:70:9
 read-slots-requires : tie.Need-read-slots-requires
-read-slots-requires c κs = ?
+read-slots-requires c κs =
+    let r3 = c .before .before .before .before in
+    let r2 = r3 .before .before .before .before .before in
+    let r1 = r2 .before .before .before .before .before .before .before .before in
+    let s = r1 .before .before .before in
+    let good : Bytes (s .args .bytes .now) = record { each = λ n. omega (arith, r1 .before .before .shared-slice-known .given n) } in
+    let i0 = run-start (s .args .bytes .now) (s .args .r .now) (s .args .start) (s .pre) in
+    let i1 = numbers-more head-exact i0 (r1 .read-longs .ensures .0) good (r2 .before .before .before .before .before .before .head .given .1) (r1 .read-longs .ensures .1) in
+    let i2 = signals-more i1 (r2 .before .before .before .if1 .left) (r2 .before .stored-end .ensures) (r2 .read-longs2 .ensures .0) good (r3 .before .before .before .signals .given .1) (r2 .read-longs2 .ensures .1) in
+    let i3 = numbers-more visits-exact i2 (r3 .read-longs3 .ensures .0) good (c .before .before .visits .given .1) (r3 .read-longs3 .ensures .1) in
+    (stage-room streaks-exact i3, i3 .reading .blank)
 
--- src/run.rt:79:19
-enum-known-streaks : tie.Need-enum-known-streaks
-enum-known-streaks c = search needs
-
--- src/run.rt:80:9
-enum-told-4 : tie.Need-enum-told-4
-enum-told-4 c = search needs
-
--- src/run.rt:80:9
 returns-5 : tie.Need-returns-5
-returns-5 c = ?
+returns-5 c =
+    let r4 = c .before .before in
+    let r3 = r4 .before .before .before .before .before in
+    let r2 = r3 .before .before .before .before .before in
+    let r1 = r2 .before .before .before .before .before .before .before .before in
+    let s = r1 .before .before .before in
+    let good : Bytes (s .args .bytes .now) = record { each = λ n. omega (arith, r1 .before .before .shared-slice-known .given n) } in
+    let i0 = run-start (s .args .bytes .now) (s .args .r .now) (s .args .start) (s .pre) in
+    let i1 = numbers-more head-exact i0 (r1 .read-longs .ensures .0) good (r2 .before .before .before .before .before .before .head .given .1) (r1 .read-longs .ensures .1) in
+    let i2 = signals-more i1 (r2 .before .before .before .if1 .left) (r2 .before .stored-end .ensures) (r2 .read-longs2 .ensures .0) good (r3 .before .before .before .signals .given .1) (r2 .read-longs2 .ensures .1) in
+    let i3 = numbers-more visits-exact i2 (r3 .read-longs3 .ensures .0) good (r4 .before .before .before .visits .given .1) (r3 .read-longs3 .ensures .1) in
+    let o = stage-refused streaks-exact i3 (r4 .read-slots .ensures .0) (c .enum-told4 .given .1) in
+    (bad-place o, bad-stored o (r4 .read-slots .ensures .1 .long ∙ stages-long i3))
 
--- src/run.rt:82:5
 read-slots-requires-2 : tie.Need-read-slots-requires-2
-read-slots-requires-2 c κs = ?
+read-slots-requires-2 c κs =
+    let r4 = c .before .before .before .before in
+    let r3 = r4 .before .before .before .before .before in
+    let r2 = r3 .before .before .before .before .before in
+    let r1 = r2 .before .before .before .before .before .before .before .before in
+    let s = r1 .before .before .before in
+    let good : Bytes (s .args .bytes .now) = record { each = λ n. omega (arith, r1 .before .before .shared-slice-known .given n) } in
+    let i0 = run-start (s .args .bytes .now) (s .args .r .now) (s .args .start) (s .pre) in
+    let i1 = numbers-more head-exact i0 (r1 .read-longs .ensures .0) good (r2 .before .before .before .before .before .before .head .given .1) (r1 .read-longs .ensures .1) in
+    let i2 = signals-more i1 (r2 .before .before .before .if1 .left) (r2 .before .stored-end .ensures) (r2 .read-longs2 .ensures .0) good (r3 .before .before .before .signals .given .1) (r2 .read-longs2 .ensures .1) in
+    let i3 = numbers-more visits-exact i2 (r3 .read-longs3 .ensures .0) good (r4 .before .before .before .visits .given .1) (r3 .read-longs3 .ensures .1) in
+    let i4 = stage-more streaks-exact i3 good (r4 .read-slots .ensures .0) (c .before .before .streaks .given .1) (r4 .read-slots .ensures .1) in
+    (stage-room results-exact i4, i4 .reading .blank)
 
--- src/run.rt:43:1
 returns-6 : tie.Need-returns-6
-returns-6 c = ?
+returns-6 c =
+    let r4 = c .before .before .before .before .before in
+    let r3 = r4 .before .before .before .before .before in
+    let r2 = r3 .before .before .before .before .before in
+    let r1 = r2 .before .before .before .before .before .before .before .before in
+    let s = r1 .before .before .before in
+    let good : Bytes (s .args .bytes .now) = record { each = λ n. omega (arith, r1 .before .before .shared-slice-known .given n) } in
+    let i0 = run-start (s .args .bytes .now) (s .args .r .now) (s .args .start) (s .pre) in
+    let i1 = numbers-more head-exact i0 (r1 .read-longs .ensures .0) good (r2 .before .before .before .before .before .before .head .given .1) (r1 .read-longs .ensures .1) in
+    let i2 = signals-more i1 (r2 .before .before .before .if1 .left) (r2 .before .stored-end .ensures) (r2 .read-longs2 .ensures .0) good (r3 .before .before .before .signals .given .1) (r2 .read-longs2 .ensures .1) in
+    let i3 = numbers-more visits-exact i2 (r3 .read-longs3 .ensures .0) good (r4 .before .before .before .visits .given .1) (r3 .read-longs3 .ensures .1) in
+    let i4 = stage-more streaks-exact i3 good (r4 .read-slots .ensures .0) (c .before .before .before .streaks .given .1) (r4 .read-slots .ensures .1) in
+    last-stage results-exact i4 good (c .read-slots2 .ensures .0) (c .read-slots2 .ensures .1)
 
 pub read-run-spec : {M : Type 1} → statement M
 read-run-spec =
     tie.close
     (tie.spec
-    read-longs-requires
-    enum-known-head
-    enum-told
+    (λ c κs. search needs)
+    (λ c. search needs)
+    (λ c. search needs)
     returns
-    element-copy-out-stored
+    (λ c. search needs)
     returns-2
-    stored-end-requires
-    read-longs-requires-2
-    enum-known-signals
-    enum-told-2
+    (λ c κs. search needs)
+    (λ c κs. search needs)
+    (λ c. search needs)
+    (λ c. search needs)
     returns-3
-    read-longs-requires-3
-    enum-known-visits
-    enum-told-3
+    (λ c κs. search needs)
+    (λ c. search needs)
+    (λ c. search needs)
     returns-4
     read-slots-requires
-    enum-known-streaks
-    enum-told-4
+    (λ c. search needs)
+    (λ c. search needs)
     returns-5
     read-slots-requires-2
     returns-6)
