@@ -1,7 +1,7 @@
 -- Numbers one behind the other.
-use mathlib.Core.Bool.{Bool}
+use mathlib.Core.Bool.{Bool, true, false}
 use mathlib.Core.List.{List, [], _∷_, flatMap}
-use Prim.Native.Nat.{ℕ, zero, suc, _+_, _-_}
+use Prim.Native.Nat.{ℕ, zero, suc, _+_, _-_, _^_}
 use lib.Dec.{ltb}
 use lib.ListN.{take, drop}
 use Rattle.laws.specs.Every.{every}
@@ -15,6 +15,11 @@ bytes-of numbers = flatMap leb128 numbers
 -- THE READER. A number below top, and k of them.
 abbrev pub number-below : (top : ℕ) → List ℕ → (at : ℕ) → Read ℕ
 number-below top bytes at = tested (λ n. ltb n top) (number-at bytes at)
+
+-- Which top it is: a small number has 32 bits, and any other 64.
+abbrev pub limit : (small : Bool) → ℕ
+limit true = 2 ^ 32
+limit false = 2 ^ 64
 
 unfoldable pub numbers-at : (top k : ℕ) → List ℕ → (at : ℕ) → Read (List ℕ)
 numbers-at top zero bytes at = got [] at
