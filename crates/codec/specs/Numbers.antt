@@ -16,14 +16,14 @@ bytes-of numbers = flatMap leb128 numbers
 abbrev pub number-below : (top : ℕ) → List ℕ → (at : ℕ) → Read ℕ
 number-below top bytes at = tested (λ n. ltb n top) (number-at bytes at)
 
--- Which top it is: a small number has 32 bits, and any other 64.
-abbrev pub limit : (small : Bool) → ℕ
-limit true = 2 ^ 32
-limit false = 2 ^ 64
-
 unfoldable pub numbers-at : (top k : ℕ) → List ℕ → (at : ℕ) → Read (List ℕ)
 numbers-at top zero bytes at = got [] at
 numbers-at top (suc k) bytes at = onward (number-below top bytes at) (λ n p. onward (numbers-at top k bytes p) (λ ns q. got (n ∷ ns) q))
+
+-- The top of a field: it has 32 bits where it is small, otherwise 64.
+abbrev pub limit : (small : Bool) → ℕ
+limit true = 2 ^ 32
+limit false = 2 ^ 64
 
 -- Which numbers it gives.
 abbrev pub all-below : (top : ℕ) → List ℕ → Bool

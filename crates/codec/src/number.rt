@@ -77,21 +77,22 @@ pub fn number_at(bytes: &[u8], at: usize) -> Number
     following(bytes, at + 1, b - 128)
 }
 
-// The number of 32 bits at a place.
-pub fn small_at(bytes: &[u8], at: usize) -> Number
+// The number of 32 bits at a place. It isn't a test behind number_at, so that `following` is called from two places: the compiler
+// then leaves it outside the loops that read, and a number of one byte takes no call.
+fn small_at(bytes: &[u8], at: usize) -> Number
     ensures { λ r. ⌜ r ≡ number-of (number-below (2 ^ 32) (now (bytes .entry)) at) ⌝ }
 {
     if bytes.len() <= at {
         return Number::Bad;
     }
-    let b = wide(bytes[at]);
-    if b < 128 {
+    let first = wide(bytes[at]);
+    if first < 128 {
         return Number::Value {
-            value: b,
+            value: first,
             next: at + 1,
         };
     }
-    let number = following(bytes, at + 1, b - 128);
+    let number = following(bytes, at + 1, first - 128);
     let Number::Value { value, next } = number else {
         return Number::Bad;
     };
@@ -101,8 +102,8 @@ pub fn small_at(bytes: &[u8], at: usize) -> Number
     Number::Value { value, next }
 }
 
-// The number at a place, of 32 bits where it is to be small.
-pub fn number_within(bytes: &[u8], at: usize, small: bool) -> Number
+// The number at a place: one of 32 bits where it is small, or of 64.
+fn number_within(bytes: &[u8], at: usize, small: bool) -> Number
     ensures { λ r. ⌜ r ≡ number-of (number-below (limit small) (now (bytes .entry)) at) ⌝ }
 {
     if small {
