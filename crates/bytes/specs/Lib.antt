@@ -8,3 +8,4 @@ pub mod Boundary
 pub mod CallStored
 -- laws
 pub mod BoundaryLaws
+pub mod AnswerLaws
