@@ -1,7 +1,7 @@
 -- An answer as bytes: both ways; and in two parts, what stands before the run, and the run.
-use mathlib.Core.Path.{_≡_, refl, sym, ap, _∙_}
-use mathlib.Core.List.{List, [], _∷_, _++_, append-assoc, append-nil}
-use Prim.Native.Nat.{ℕ, _+_, _*_, _-_, _^_, _≤_, min}
+use mathlib.Core.Path.{_≡_, sym, ap, _∙_}
+use mathlib.Core.List.{List, [], _++_, append-assoc, append-nil}
+use Prim.Native.Nat.{ℕ, _+_, _*_, _-_, _≤_, min}
 use native.Mathlib.Omega.{arith}
 use lib.Dec.{eqb, leb}
 use lib.ListN.{length, getD, take, drop, length-append, length-take, drop-of-length-le}
@@ -14,21 +14,13 @@ use Rattle.host.specs.Layout as layout
 use Rattle.codec.specs.Numbers.{bytes-of, part}
 use Rattle.codec.specs.Stages.{numbers, column, beside, widths, staged}
 use Rattle.codec.specs.Exact.{Exact, bytes-append}
-use Rattle.codec.specs.NumbersLaws.{numbers-exact}
-use Rattle.codec.specs.ColumnsLaws.{column-exact, bytes-few, Stage-exact, staged-width, staged-exact}
+use Rattle.codec.specs.Loops.{Bytes-first}
+use Rattle.codec.specs.ColumnsLaws.{bytes-few, Stage-exact, staged-width, staged-exact}
 use Rattle.bytes.specs.Run.{run}
-use Rattle.bytes.specs.RunLaws.{run-width, run-exact}
+use Rattle.bytes.specs.RunLaws.{numbers-stage, column-stage, run-width, run-exact}
 use Rattle.bytes.specs.Answer.{the-run, next-stages, next, want-stages, want, answer, answer-head}
 
 -- BOTH WAYS. Each stage is exact.
-numbers-stage : (k : ℕ) → Stage-exact (record { room = k; shape = λ _. numbers (2 ^ 64) k })
-unfolding numbers
-numbers-stage k = record { exact = λ _. numbers-exact (2 ^ 64) k (omega arith); wide = λ _. refl }
-
-column-stage : (room : ℕ) (used : List ℕ → ℕ) → Stage-exact (record { room = room; shape = λ seen. column (2 ^ 64) room (used seen) })
-unfolding column
-column-stage room used = record { exact = λ seen. column-exact (2 ^ 64) room (used seen) (omega arith); wide = λ _. refl }
-
 run-stage : Stage-exact the-run
 run-stage = record { exact = λ _. run-exact; wide = λ _. run-width }
 
@@ -99,10 +91,7 @@ module _ (ns : List ℕ) where
   answer-parts = split (eqb (getD ns 0 0) 1) (λ h. rw (h, append-assoc) next-parts) (λ h. rw h want-parts)
 
 -- BYTES IN TWO PARTS: how many they are; and both parts written.
-pub record Two-parts (whole xs ys : List ℕ) : Type 0 where
-  pub is : whole ≡ xs ++ ys
-
-module _ {whole xs ys : List ℕ} (parts : Two-parts whole xs ys) where
+module _ {whole xs ys : List ℕ} (parts : Bytes-first whole xs ys) where
   pub both-sizes : length xs + length ys ≡ length whole
   both-sizes = rw (parts .is) (sym (length-append xs ys))
 
@@ -113,7 +102,7 @@ module _ {whole xs ys : List ℕ} (parts : Two-parts whole xs ys) where
 
 -- What stands before the run, by the kind.
 module _ (ns : List ℕ) where
-  pub next-head : {p q : ℕ} → getD ns layout.answer-kind 0 ≡ 1 → p ≡ notes-end ns → q ≡ layout.answer-endings + ended ns → Two-parts (bytes-of (answer-head ns)) (bytes-of (part ns 0 p)) (bytes-of (part ns layout.answer-endings q))
+  pub next-head : {p q : ℕ} → getD ns layout.answer-kind 0 ≡ 1 → p ≡ notes-end ns → q ≡ layout.answer-endings + ended ns → Bytes-first (bytes-of (answer-head ns)) (bytes-of (part ns 0 p)) (bytes-of (part ns layout.answer-endings q))
   unfolding answer-head part if_then_else_
   next-head {p} {q} kind e f =
       let a : p - 0 ≡ notes-end ns = omega arith in
@@ -141,7 +130,7 @@ module _ (ns : List ℕ) where
   pub head-within : length (bytes-of (answer-head ns)) ≤ length (bytes-of (answer (getD ns layout.answer-kind 0) .fields ns))
   head-within = rw (answer-parts ns, bytes-append (answer-head ns) (from-run ns), length-append) (omega arith)
 
-  pub answer-bytes : length ns ≡ layout.answer-length → Two-parts (bytes-of (answer (getD ns layout.answer-kind 0) .fields ns)) (bytes-of (answer-head ns)) (bytes-of (run .fields (part ns layout.answer-record (layout.answer-record + layout.record-length))))
+  pub answer-bytes : length ns ≡ layout.answer-length → Bytes-first (bytes-of (answer (getD ns layout.answer-kind 0) .fields ns)) (bytes-of (answer-head ns)) (bytes-of (run .fields (part ns layout.answer-record (layout.answer-record + layout.record-length))))
   answer-bytes long =
       let h : length ns ≤ layout.answer-length = omega arith in
       let e : drop layout.answer-length ns ≡ [] = drop-of-length-le ns h in
