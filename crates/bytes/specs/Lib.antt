@@ -10,6 +10,5 @@ pub mod CallStored
 pub mod SheetLaws
 pub mod StagesLoops
 pub mod RunLaws
+pub mod AnswerLaws
 pub mod BoundaryLaws
-pub mod StagesLoops
-pub mod RunLaws

@@ -30,13 +30,13 @@ use Rattle.bytes.specs.Run.{single-numbers, stored-signals, all-visits, 
 use Rattle.bytes.specs.StagesLoops.{Reading-stages, stages-start, stages-seen, stage-room, stage-bad, stage-refused, stage-more, stages-neat, stages-written, no-stage-neat, no-stage-written}
 
 -- THE STAGES, each exact.
-numbers-stage : (k : ℕ) → Stage-exact (record { room = k; shape = λ _. numbers (2 ^ 64) k })
+pub numbers-stage : (k : ℕ) → Stage-exact (record { room = k; shape = λ _. numbers (2 ^ 64) k })
 unfolding numbers
 numbers-stage k = record { exact = λ _. numbers-exact (2 ^ 64) k (omega arith); wide = λ _. refl }
 
-signals-stage : Stage-exact stored-signals
+pub column-stage : (room : ℕ) (used : List ℕ → ℕ) → Stage-exact (record { room = room; shape = λ seen. column (2 ^ 64) room (used seen) })
 unfolding column
-signals-stage = record { exact = λ seen. column-exact (2 ^ 64) (layout.signal-width * layout.store) (layout.signal-width * getD seen layout.record-stored 0) (omega arith); wide = λ _. refl }
+column-stage room used = record { exact = λ seen. column-exact (2 ^ 64) room (used seen) (omega arith); wide = λ _. refl }
 
 slots-stage : (before after k room : ℕ) → room ≡ (before + suc after) * k → Stage-exact (record { room = room; shape = λ _. slots (2 ^ 64) before after k })
 slots-stage before after k room e = record { exact = λ _. slots-exact (2 ^ 64) before after k (omega arith); wide = λ _. slots-width (2 ^ 64) before after k ∙ sym e }
@@ -63,7 +63,7 @@ pub visits-exact : All Stage-exact from-visits
 visits-exact = (numbers-stage layout.nodes, streaks-exact)
 
 signals-exact : All Stage-exact from-signals
-signals-exact = (signals-stage, visits-exact)
+signals-exact = (column-stage (layout.signal-width * layout.store) (λ seen. layout.signal-width * getD seen layout.record-stored 0), visits-exact)
 
 pub head-exact : All Stage-exact (single-numbers ∷ from-signals)
 head-exact = (numbers-stage layout.record-signals, signals-exact)
