@@ -6,13 +6,21 @@ use std::path::PathBuf;
 use std::process::Command;
 use std::{env, fs};
 
-const NAMES: [&str; 6] = [
+const NAMES: [&str; 14] = [
     "memcpy",
     "memmove",
     "memset",
     "kuxhoveza_layout_version",
     "kuxhoveza_transition",
     "kuxhoveza_verdict",
+    "kuxhoveza_write_sheet",
+    "kuxhoveza_read_sheet",
+    "kuxhoveza_write_run",
+    "kuxhoveza_read_run",
+    "kuxhoveza_write_event",
+    "kuxhoveza_read_event",
+    "kuxhoveza_call",
+    "kuxhoveza_call_on",
 ];
 
 fn main() {

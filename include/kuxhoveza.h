@@ -142,6 +142,9 @@ extern "C" {
 #define KUXHOVEZA_CALL_DELAY 25
 #define KUXHOVEZA_CALL_RESOLUTION 26
 #define KUXHOVEZA_CALL_ANSWERED 27
+
+/* How many numbers an event has: those of a call from its sequence on. */
+#define KUXHOVEZA_EVENT 19
 #define KUXHOVEZA_CALL_MAPPINGS 28
 #define KUXHOVEZA_CALL 38
 
@@ -259,6 +262,41 @@ uint32_t kuxhoveza_transition(const uint32_t *sheet, size_t sheet_len, const uin
  * For lengths and buffer holds what is said above. */
 uint32_t kuxhoveza_verdict(const uint32_t *sheet, size_t sheet_len, uint32_t nodes, uint32_t visits,
                            uint32_t activations, uint32_t attempts, uint32_t *verdict, size_t verdict_len);
+
+/* Bytes, for storing and piping: docs/BYTES.md has the format. A function of bytes returns one number of 64 bits. Its low
+ * half is 0 where it is done, and else says why not; its high half is the number of bytes written, the item of a refusal,
+ * and else 0. Where the low half isn't 0 nothing is written. Lengths and buffers are as above, but that a buffer for bytes
+ * may be of any length: of it the first bytes are written, as many as the function says, and no others. */
+#define KUXHOVEZA_NUMBER(r) ((uint32_t)(r))
+#define KUXHOVEZA_REST(r) ((uint32_t)((uint64_t)(r) >> 32))
+
+/* Beside the numbers above and the refusals: bad bytes, and a buffer too short for the bytes. Their item is
+ * KUXHOVEZA_NONE. */
+#define KUXHOVEZA_BAD_BYTES 31
+#define KUXHOVEZA_SHORT_BYTES 32
+
+/* No sheet, run, event, call or answer has more bytes: ten for each number that it can have. */
+#define KUXHOVEZA_SHEET_BYTES 41690
+#define KUXHOVEZA_RUN_BYTES 9180
+#define KUXHOVEZA_EVENT_BYTES 190
+#define KUXHOVEZA_CALL_BYTES 51250
+#define KUXHOVEZA_ANSWER_BYTES 13860
+
+/* Numbers to bytes and back. A write is refused with 20 (a sheet) or 25 (a run) where a count is above its capacity or an
+ * unused slot isn't zero, and judges no other rule. An event is the KUXHOVEZA_EVENT numbers of a call from
+ * KUXHOVEZA_CALL_SEQUENCE on. */
+uint64_t kuxhoveza_write_sheet(const uint32_t *sheet, size_t sheet_len, uint8_t *bytes, size_t bytes_len);
+uint64_t kuxhoveza_read_sheet(const uint8_t *bytes, size_t bytes_len, uint32_t *sheet, size_t sheet_len);
+uint64_t kuxhoveza_write_run(const uint64_t *record, size_t record_len, uint8_t *bytes, size_t bytes_len);
+uint64_t kuxhoveza_read_run(const uint8_t *bytes, size_t bytes_len, uint64_t *record, size_t record_len);
+uint64_t kuxhoveza_write_event(const uint64_t *event, size_t event_len, uint8_t *bytes, size_t bytes_len);
+uint64_t kuxhoveza_read_event(const uint8_t *bytes, size_t bytes_len, uint64_t *event, size_t event_len);
+
+/* One call in bytes, with its sheet; or on a sheet in numbers, with the bytes of a call without its sheet. The answer's bytes
+ * end with the run, to keep or for evaluation alone as above. A refusal has no bytes: it is what is returned. */
+uint64_t kuxhoveza_call(const uint8_t *bytes, size_t bytes_len, uint8_t *answer, size_t answer_len);
+uint64_t kuxhoveza_call_on(const uint32_t *sheet, size_t sheet_len, const uint8_t *bytes, size_t bytes_len,
+                           uint8_t *answer, size_t answer_len);
 
 #ifdef __cplusplus
 }

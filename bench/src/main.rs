@@ -7,6 +7,7 @@
 //! `limits`.
 
 mod counted;
+mod in_bytes;
 
 use std::hint::black_box;
 use std::process::ExitCode;
@@ -232,10 +233,9 @@ struct Measured {
     large: Option<usize>,
 }
 
-fn calls() -> Measured {
+fn calls(cases: &[(String, Call)]) -> Measured {
     println!("| Call | Original, ns | Plain, structs | Plain, boundary | Plain, in place | Library | Original / library | Library / plain, boundary | Library / plain, in place | Library / plain, structs | Copied, bytes | Cleared, bytes |");
     println!("|---|---|---|---|---|---|---|---|---|---|---|---|");
-    let cases = cases();
     let shown: Vec<Shown> = cases
         .iter()
         .map(|(name, call)| show_call(name, call))
@@ -280,7 +280,7 @@ fn limit(text: &str, name: &str) -> f64 {
 }
 
 /// Whether nothing is above its limit.
-fn check(verdicts: f64, measured: &Measured) -> bool {
+fn check(verdicts: f64, measured: &Measured, bytes: &in_bytes::Measured) -> bool {
     let text = include_str!("../limits");
     let Some(large) = measured.large else {
         println!("NOT CHECKED: no copies are counted");
@@ -295,6 +295,10 @@ fn check(verdicts: f64, measured: &Measured) -> bool {
         ("longest", measured.longest),
         ("longest-to-original", measured.longest_to_original),
         ("large-copies", large as f64),
+        ("bytes", bytes.greatest),
+        ("bytes-calls", bytes.calls),
+        ("bytes-calls-on", bytes.calls_on),
+        ("bytes-greatest-call", bytes.greatest_call),
     ];
     let mut within = true;
     for (name, number) in held {
@@ -322,8 +326,11 @@ fn main() -> ExitCode {
     };
     let verdicts = verdicts();
     println!();
-    let measured = calls();
-    match checked && !check(verdicts, &measured) {
+    let cases = cases();
+    let measured = calls(&cases);
+    println!();
+    let bytes = in_bytes::measure(&cases, LONGEST);
+    match checked && !check(verdicts, &measured, &bytes) {
         true => ExitCode::FAILURE,
         false => ExitCode::SUCCESS,
     }

@@ -13,7 +13,8 @@ pub fn write(header: &str) {
     fs::write(out.join("layout.rs"), constants).unwrap();
 }
 
+/// Macros with arguments are none.
 fn constant(line: &str) -> Option<String> {
     let (name, value) = line.strip_prefix("#define KUXHOVEZA_")?.split_once(' ')?;
-    Some(format!("pub const {name}: usize = {value};\n"))
+    (!name.contains('(')).then(|| format!("pub const {name}: usize = {value};\n"))
 }

@@ -15,23 +15,27 @@ counted-rows width capacity place = record { room = width * capacity; shape = λ
 abbrev pub the-run : Stage
 the-run = record { room = layout.record-length; shape = λ _. run }
 
-unfoldable pub next : Shape
-next =
-    staged
-    (record { room = layout.answer-notes; shape = λ _. numbers (2 ^ 64) layout.answer-notes }
+abbrev pub next-stages : List Stage
+next-stages =
+    record { room = layout.answer-notes; shape = λ _. numbers (2 ^ 64) layout.answer-notes }
     ∷ counted-rows layout.note-width layout.notes layout.answer-noted
     ∷ counted-rows layout.ending-width layout.endings layout.answer-ended
     ∷ the-run
-    ∷ []) []
+    ∷ []
+
+unfoldable pub next : Shape
+next = staged next-stages []
 
 -- of a want nothing stands between its four numbers and the run
-unfoldable pub want : Shape
-want =
-    staged
-    (record { room = layout.want-length; shape = λ _. numbers (2 ^ 64) layout.want-length }
+abbrev pub want-stages : List Stage
+want-stages =
+    record { room = layout.want-length; shape = λ _. numbers (2 ^ 64) layout.want-length }
     ∷ record { room = layout.answer-record - layout.want-length; shape = λ _. column (2 ^ 64) (layout.answer-record - layout.want-length) 0 }
     ∷ the-run
-    ∷ []) []
+    ∷ []
+
+unfoldable pub want : Shape
+want = staged want-stages []
 
 unfoldable pub answer : (kind : ℕ) → Shape
 answer kind = if eqb kind 1 then next else want

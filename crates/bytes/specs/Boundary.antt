@@ -1,4 +1,5 @@
 -- What the exported functions return and leave (docs/BYTES.md).
+use mathlib.Core.Path.{_≡_}
 use mathlib.Core.Bool.{Bool, true, false, not}
 use mathlib.Core.List.{List, [], _∷_, _++_}
 use Prim.Native.Nat.{ℕ, _+_, _*_, _^_}
@@ -12,7 +13,7 @@ use Rattle.host.specs.Read.{at, narrow, record-fits}
 use Rattle.host.specs.Write.{decision-numbers}
 use Rattle.host.specs.Host.{receipt, decided}
 use Rattle.codec.specs.Read.{Read, got, bad}
-use Rattle.codec.specs.Numbers.{bytes-of}
+use Rattle.codec.specs.Numbers.{bytes-of, all-below}
 use Rattle.codec.specs.Stages.{Shape}
 use Rattle.bytes.specs.Sheet.{sheet}
 use Rattle.bytes.specs.Run.{run}
@@ -139,3 +140,7 @@ is-said unread = false
 unfoldable pub said-in : Decided → List ℕ → List ℕ
 said-in (said ns) array = splice array 0 ns
 said-in unread array = array
+
+-- The numbers of an answer have 64 bits, so that what is written of them reads back.
+pub record Of-64-bits (decided : Decided) : Type 0 where
+  pub each : (ns : List ℕ) → decided ≡ said ns → all-below (2 ^ 64) ns ≡ true

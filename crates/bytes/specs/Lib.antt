@@ -7,4 +7,8 @@ pub mod Answer
 pub mod Boundary
 pub mod CallStored
 -- laws
+pub mod SheetLaws
+pub mod StagesLoops
+pub mod RunLaws
+pub mod AnswerLaws
 pub mod BoundaryLaws

@@ -33,7 +33,7 @@ ghost use lib.ListN.{length, getD, take, drop};
 ghost use Rattle.laws.specs.Splice.{splice};
 ghost use Rattle.workflow.specs.Layout.{numbers as sheet-length};
 ghost use Rattle.codec.specs.Numbers.{part};
-ghost use Rattle.bytes.specs.Boundary.{no-item, packed, returned, left, write-sheet, write-run, write-event, read-sheet, read-run, read-event, said, told, decide, decide-on, is-said, said-in, call-bytes, call-bytes-on};
+ghost use Rattle.bytes.specs.Boundary.{no-item, packed, returned, left, write-sheet, write-run, write-event, read-sheet, read-run, read-event, said, told, decide, decide-on, is-said, said-in, Of-64-bits, call-bytes, call-bytes-on};
 ghost use Rattle.bytes.specs.BoundaryLaws.{ends-at};
 
 // Refusals of this crate. Their item is 255.
@@ -243,6 +243,7 @@ pub extern "C" fn kuxhoveza_read_event(bytes: &[u8], event: &mut [u64]) -> u64
 pub fn decide(bytes: &[u8], answer: &mut [u64; layout::ANSWER]) -> bool
     ensures { λ r. ⌜ r ≡ is-said (decide (now (bytes .entry))) ⌝ }
     ensures { λ _. ⌜ now (answer .exit) ≡ said-in (decide (now (bytes .entry))) (now (answer .entry)) ⌝ }
+    ensures { λ _. ⌜ Of-64-bits (decide (now (bytes .entry))) ⌝ }
 {
     let mut sheet = [0u32; NUMBERS];
     let mut call = [0u64; layout::CALL];
@@ -278,6 +279,7 @@ fn answered(answer: &[u64; layout::ANSWER], out: &mut [u8]) -> u64
 pub extern "C" fn kuxhoveza_call(bytes: &[u8], out: &mut [u8]) -> u64
     ensures { λ r. ⌜ r ≡ returned (call-bytes (now (bytes .entry)) (length (now (out .entry)))) ⌝ }
     ensures { λ _. ⌜ now (out .exit) ≡ left (call-bytes (now (bytes .entry)) (length (now (out .entry)))) (now (out .entry)) ⌝ }
+    ensures { λ _. ⌜ Of-64-bits (decide (now (bytes .entry))) ⌝ }
 {
     let mut answer = [0u64; layout::ANSWER];
     if decide(bytes, &mut answer) {
@@ -291,6 +293,7 @@ pub extern "C" fn kuxhoveza_call(bytes: &[u8], out: &mut [u8]) -> u64
 fn decide_on(sheet: &[u32; NUMBERS], bytes: &[u8], answer: &mut [u64; layout::ANSWER]) -> bool
     ensures { λ r. ⌜ r ≡ is-said (decide-on (now (sheet .entry)) (now (bytes .entry))) ⌝ }
     ensures { λ _. ⌜ now (answer .exit) ≡ said-in (decide-on (now (sheet .entry)) (now (bytes .entry))) (now (answer .entry)) ⌝ }
+    ensures { λ _. ⌜ Of-64-bits (decide-on (now (sheet .entry)) (now (bytes .entry))) ⌝ }
 {
     let mut call = [0u64; layout::CALL];
     let mut run = [0u64; layout::RECORD];
@@ -315,6 +318,7 @@ pub extern "C" fn kuxhoveza_call_on(
 ) -> u64
     ensures { λ r. ⌜ r ≡ returned (call-bytes-on (now (sheet .entry)) «sheet_len» (now (bytes .entry)) (length (now (out .entry)))) ⌝ }
     ensures { λ _. ⌜ now (out .exit) ≡ left (call-bytes-on (now (sheet .entry)) «sheet_len» (now (bytes .entry)) (length (now (out .entry)))) (now (out .entry)) ⌝ }
+    ensures { λ _. ⌜ («sheet_len» ≡ sheet-length → Of-64-bits (decide-on (now (sheet .entry)) (now (bytes .entry)))) ⌝ }
 {
     if sheet_len != NUMBERS {
         return receipt(layout::BAD_SHEET_LENGTH);

@@ -50,7 +50,7 @@ pub fn read_run(bytes: &[u8], start: usize, r: &mut [u64; layout::RECORD]) -> Pl
         return Place::Bad;
     };
     let stored = r[layout::RECORD_STORED];
-    if CAPACITY < stored {
+    if stored > CAPACITY {
         return Place::Bad;
     }
     let signals = read_longs(bytes, first, r, layout::RECORD_SIGNALS, stored_end(stored));

@@ -44,7 +44,7 @@ module _ (top : ℕ) (rooms used : List ℕ) (c : ℕ) where
   left-none h = rw (drop-of-length-le rooms h)
 
 -- ONE COLUMN READ. A count above its room; the numbers in a list that is zero from there on.
-column-over : (top room used : ℕ) (bytes : List ℕ) (at : ℕ) → room < used → column top room used .read bytes at ≡ bad
+pub column-over : (top room used : ℕ) (bytes : List ℕ) (at : ℕ) → room < used → column top room used .read bytes at ≡ bad
 unfolding column if_then_else_
 column-over top room used bytes at h = rw (lt-ltb room used h)
 
@@ -54,7 +54,7 @@ module _ (top room used : ℕ) (bytes : List ℕ) (at : ℕ) (low : used ≤ roo
   same-place bad = refl
   same-place (got ns p) = refl
 
-  column-place : {z : Place} → z ≡ place-of (numbers-at top used bytes at) → z ≡ place-of (column top room used .read bytes at)
+  pub column-place : {z : Place} → z ≡ place-of (numbers-at top used bytes at) → z ≡ place-of (column top room used .read bytes at)
   column-place e = e ∙ same-place (numbers-at top used bytes at) ∙ ap place-of (sym (column-read top room used bytes at low))
 
   -- what the numbers are where the column was read
@@ -81,7 +81,7 @@ module _ (top room used : ℕ) (bytes : List ℕ) (at : ℕ) (low : used ≤ roo
       let n = f .long in
       rw (← f .full) (padded-long room (f .xs) (omega arith))
 
-  column-stored : {l : List ℕ} {i : ℕ} {after : List ℕ} → i + room ≤ length l → Zero-from i l → Stored (numbers-at top used bytes at) l i after → Stored (column top room used .read bytes at) l i after
+  pub column-stored : {l : List ℕ} {i : ℕ} {after : List ℕ} → i + room ≤ length l → Zero-from i l → Stored (numbers-at top used bytes at) l i after → Stored (column top room used .read bytes at) l i after
   column-stored {l} {i} {after} h z s =
       record {
         is = λ ns p e.
@@ -93,13 +93,13 @@ module _ (top room used : ℕ) (bytes : List ℕ) (at : ℕ) (low : used ≤ roo
 
 -- ONE COLUMN IN A LIST. Its numbers that are used.
 module _ (top room used : ℕ) (xs : List ℕ) (i : ℕ) where
-  used-part : used ≤ room → column top room used .fields (part xs i (i + room)) ≡ part xs i (i + used)
+  pub used-part : used ≤ room → column top room used .fields (part xs i (i + room)) ≡ part xs i (i + used)
   unfolding column
   used-part low =
       let e : used + (room - used) ≡ room = omega arith in
       rw e at (part-front xs i used (room - used))
 
-  column-neat : used ≤ room → i + room ≤ length xs → ((n : ℕ) → getD xs n 0 < top) → column top room used .tidy (part xs i (i + room)) ≡ all-zero (part xs (i + used) (i + room))
+  pub column-neat : used ≤ room → i + room ≤ length xs → ((n : ℕ) → getD xs n 0 < top) → column top room used .tidy (part xs i (i + room)) ≡ all-zero (part xs (i + used) (i + room))
   unfolding column _and_
   column-neat low h small =
       let n = part-long xs i room h in
@@ -109,7 +109,7 @@ module _ (top room used : ℕ) (xs : List ℕ) (i : ℕ) where
       let s = every-take (λ m. ltb m top) used (part xs i (i + room)) (part-below top xs i (i + room) small) in
       rw (eq-eqb (length (part xs i (i + room))) room n, le-leb used room low, s, b)
 
-  column-crowded : room < used → i + room ≤ length xs → column top room used .tidy (part xs i (i + room)) ≡ false
+  pub column-crowded : room < used → i + room ≤ length xs → column top room used .tidy (part xs i (i + room)) ≡ false
   unfolding column _and_
   column-crowded over h = rw (eq-eqb (length (part xs i (i + room))) room (part-long xs i room h), lt-leb used room over)
 

@@ -17,6 +17,8 @@ pub mod NumbersLoops
 pub mod Zeros
 pub mod Parts
 pub mod ColumnsLaws
+pub mod PartLaws
+pub mod Loops
 pub mod ShapesLoops
 pub mod ColumnsLoops
 pub mod SlotsLaws

@@ -1,7 +1,7 @@
 -- Numbers one behind the other.
-use mathlib.Core.Bool.{Bool}
+use mathlib.Core.Bool.{Bool, true, false}
 use mathlib.Core.List.{List, [], _∷_, flatMap}
-use Prim.Native.Nat.{ℕ, zero, suc, _+_, _-_}
+use Prim.Native.Nat.{ℕ, zero, suc, _+_, _-_, _^_}
 use lib.Dec.{ltb}
 use lib.ListN.{take, drop}
 use Rattle.laws.specs.Every.{every}
@@ -19,6 +19,11 @@ number-below top bytes at = tested (λ n. ltb n top) (number-at bytes at)
 unfoldable pub numbers-at : (top k : ℕ) → List ℕ → (at : ℕ) → Read (List ℕ)
 numbers-at top zero bytes at = got [] at
 numbers-at top (suc k) bytes at = onward (number-below top bytes at) (λ n p. onward (numbers-at top k bytes p) (λ ns q. got (n ∷ ns) q))
+
+-- The top of a field: it has 32 bits where it is small, otherwise 64.
+abbrev pub limit : (small : Bool) → ℕ
+limit true = 2 ^ 32
+limit false = 2 ^ 64
 
 -- Which numbers it gives.
 abbrev pub all-below : (top : ℕ) → List ℕ → Bool

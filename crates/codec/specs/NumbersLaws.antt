@@ -7,11 +7,11 @@ use native.Mathlib.Omega.{arith}
 use lib.Dec.{ltb}
 use lib.ListN.{length, drop, length-append}
 use lib.Seq.{drop-at, drop-drop}
-use borrow.Author.Tests.{ltb-true, lt-ltb, eqb-true, eq-eqb}
+use borrow.Author.Tests.{ltb-true, lt-ltb, le-ltb, eqb-true, eq-eqb}
 use Rattle.laws.specs.Bool.{if_then_else_, split, _and_, both, join}
 use Rattle.laws.specs.Every.{every}
 use Rattle.codec.specs.Read.{Read, got, bad, onward, tested}
-use Rattle.codec.specs.Leb.{leb128, number-at}
+use Rattle.codec.specs.Leb.{leb128, parse, number-at}
 use Rattle.codec.specs.Numbers.{bytes-of, number-below, numbers-at, all-below}
 use Rattle.codec.specs.Stages.{numbers}
 use Rattle.codec.specs.Exact.{Bytes, Is-read, Exact, not-bad}
@@ -23,8 +23,22 @@ module _ (top : ℕ) where
   unfolding tested onward if_then_else_
   below-back bytes rest at n t h e = rw (number-back bytes rest at n (omega arith) e, lt-ltb n top h)
 
+  -- what was read passes the test, or doesn't
+  module _ {r : Read ℕ} where
+    pub below-got : {n next : ℕ} → r ≡ got n next → n < top → tested (λ m. ltb m top) r ≡ got n next
+    unfolding tested onward if_then_else_
+    below-got {n} e h = rw (e, lt-ltb n top h)
+
+    pub below-over : {n next : ℕ} → r ≡ got n next → top ≤ n → tested (λ m. ltb m top) r ≡ bad
+    unfolding tested onward if_then_else_
+    below-over {n} e h = rw (e, le-ltb n top h)
+
+    pub below-bad : r ≡ bad → tested (λ m. ltb m top) r ≡ bad
+    unfolding tested onward
+    below-bad e = rw e
+
   -- what passed the test was read, and is below top
-  tested-below : (n next : ℕ) (r : Read ℕ) → tested (λ m. ltb m top) r ≡ got n next → (r ≡ got n next) × (n < top)
+  pub tested-below : (n next : ℕ) (r : Read ℕ) → tested (λ m. ltb m top) r ≡ got n next → (r ≡ got n next) × (n < top)
   unfolding tested onward if_then_else_
   tested-below n next bad e = not-bad e
   tested-below n next (got m p) e =
@@ -39,6 +53,16 @@ module _ (top : ℕ) where
   below-only bytes at n next good e =
       let b = tested-below n next (number-at bytes at) e in
       (number-only bytes at n next good (b .0), b .1)
+
+-- every number that is read has 64 bits
+passes : (at : ℕ) (r : Read ℕ) → tested (λ n. ltb n (2 ^ 64)) (onward r (λ n size. if ltb n (2 ^ 64) then got n (at + size) else bad)) ≡ onward r (λ n size. if ltb n (2 ^ 64) then got n (at + size) else bad)
+unfolding tested onward if_then_else_
+passes at bad = refl
+passes at (got n size) = split (ltb n (2 ^ 64)) (λ t. rw (t, t)) (λ t. rw t)
+
+pub below-any : (bytes : List ℕ) (at : ℕ) → number-below (2 ^ 64) bytes at ≡ number-at bytes at
+unfolding number-at
+below-any bytes at = passes at (parse 10 (drop at bytes))
 
 -- K NUMBERS. Read back.
 module _ (top : ℕ) (small : top ≤ 2 ^ 64) (bytes rest : List ℕ) where

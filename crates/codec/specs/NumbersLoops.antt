@@ -6,12 +6,10 @@ use native.Mathlib.Numerals.{add-one}
 use native.Mathlib.Omega.{arith}
 use lib.ListN.{length, getD, set, length-append}
 use lib.Seq.{drop-cons}
-use borrow.Author.Tests.{lt-ltb, le-ltb}
-use Rattle.laws.specs.Bool.{if_then_else_}
 use Rattle.laws.specs.Rows.{span, span-more, span-none}
 use Rattle.laws.specs.Splice.{splice, splice-none, splice-one, splice-more, length-splice}
-use Rattle.codec.specs.Read.{Read, got, bad, onward, tested}
-use Rattle.codec.specs.Leb.{leb128, number-at}
+use Rattle.codec.specs.Read.{Read, got, bad, onward}
+use Rattle.codec.specs.Leb.{leb128}
 use Rattle.codec.specs.Numbers.{bytes-of, number-below, numbers-at, part}
 use Rattle.codec.specs.LebLaws.{leb-few}
 
@@ -84,25 +82,20 @@ module _ {top : ℕ} {bytes : List ℕ} {whole : Read (List ℕ)} {before : List
       let e : end - i ≡ suc (end - (i + 1)) = omega arith in
       rw e at (inv .left)
 
-  pub reading-bad : number-at bytes at ≡ bad → i < end → whole ≡ bad
-  unfolding onward tested
+  pub reading-bad : number-below top bytes at ≡ bad → i < end → whole ≡ bad
+  unfolding onward
   reading-bad e h = sym (rw e at (next h))
 
-  pub reading-large : {n p : ℕ} → number-at bytes at ≡ got n p → top ≤ n → i < end → whole ≡ bad
-  unfolding onward tested if_then_else_
-  reading-large {n} {p} e t h = sym (rw (e, le-ltb n top t) at (next h))
-
-  pub reading-more : {n p : ℕ} → number-at bytes at ≡ got n p → n < top → i < end → Reading top bytes whole before first end p (i + 1) (set list i n)
-  unfolding onward tested if_then_else_
-  reading-more {n} {p} e t h =
+  pub reading-more : {n p : ℕ} → number-below top bytes at ≡ got n p → i < end → Reading top bytes whole before first end p (i + 1) (set list i n)
+  unfolding onward
+  reading-more {n} {p} e h =
       let c = inv .count in
       let r = inv .room in
       let long = reading-long in
       let s : length (inv .seen ++ (n ∷ [])) ≡ length (inv .seen) + 1 = length-append (inv .seen) (n ∷ []) in
-      let f : number-below top bytes at ≡ got n p = rw (e, lt-ltb n top t) in
       record {
         seen = inv .seen ++ (n ∷ []);
-        left = sym (one-behind (inv .seen) n (numbers-at top (end - (i + 1)) bytes p)) ∙ (rw f at (next h));
+        left = sym (one-behind (inv .seen) n (numbers-at top (end - (i + 1)) bytes p)) ∙ (rw e at (next h));
         so-far = splice-one list i n (omega arith) ∙ rw (inv .so-far) (splice-more before first (inv .seen) (n ∷ []) i (omega arith) (omega arith));
         count = omega arith;
         high = omega arith;

@@ -7,12 +7,12 @@ use native.Mathlib.Omega.{arith}
 use lib.Dec.{eqb}
 use lib.ListN.{length, getD, take, drop, replicate, set, length-set, length-append}
 use lib.Seq.{getD-take, getD-drop}
-use borrow.Author.Tests.{lt-ltb, eqb-true, eqb-false, eq-eqb, ne-eqb}
+use borrow.Author.Tests.{eqb-true, eqb-false, eq-eqb, ne-eqb}
 use Rattle.laws.specs.Bool.{if_then_else_, split, _and_}
 use Rattle.laws.specs.Listing.{padded}
 use Rattle.laws.specs.Splice.{splice, splice-none, splice-one, splice-more, length-splice}
-use Rattle.codec.specs.Read.{Read, got, bad, onward, tested}
-use Rattle.codec.specs.Leb.{groups, leb128, number-at}
+use Rattle.codec.specs.Read.{Read, got, bad, onward}
+use Rattle.codec.specs.Leb.{groups, leb128}
 use Rattle.codec.specs.Numbers.{bytes-of, number-below, numbers-at, part}
 use Rattle.codec.specs.Stages.{all-zero}
 use Rattle.codec.specs.Slots.{slot}
@@ -39,15 +39,11 @@ same-place bad f = refl
 
 -- ONE SLOT READ, behind its lead.
 module _ (top before after : ℕ) (bytes : List ℕ) (at : ℕ) where
-  pub no-lead : number-at bytes at ≡ bad → slot top before after .read bytes at ≡ bad
-  unfolding slot tested onward
+  pub no-lead : number-below top bytes at ≡ bad → slot top before after .read bytes at ≡ bad
+  unfolding slot onward
   no-lead e = rw e
 
-  module _ {lead p : ℕ} (there : number-at bytes at ≡ got lead p) (low : lead < top) where
-    lead-read : number-below top bytes at ≡ got lead p
-    unfolding tested onward if_then_else_
-    lead-read = rw (there, lt-ltb lead top low)
-
+  module _ {lead p : ℕ} (lead-read : number-below top bytes at ≡ got lead p) where
     pub unused-read : lead ≡ 0 → slot top before after .read bytes at ≡ got (replicate (before + suc after) 0) p
     unfolding slot onward if_then_else_
     unused-read z = rw (lead-read, eq-eqb lead 0 z)

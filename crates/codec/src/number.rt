@@ -1,9 +1,10 @@
 // One number: its groups read, counted and written, and the reader that stands on lent bytes.
 ghost use mathlib.Core.Path.{_≡_};
-ghost use Prim.Native.Nat.{_+_, _≤_, _<_};
+ghost use Prim.Native.Nat.{_+_, _^_, _≤_, _<_};
 ghost use lib.ListN.{length};
 ghost use Rattle.laws.specs.Splice.{splice};
 ghost use Rattle.codec.specs.Leb.{leb128, number-at};
+ghost use Rattle.codec.specs.Numbers.{number-below, limit};
 ghost use Rattle.codec.specs.Stored.{number-of};
 ghost use Rattle.codec.specs.Groups.{followed};
 
@@ -76,6 +77,41 @@ pub fn number_at(bytes: &[u8], at: usize) -> Number
     following(bytes, at + 1, b - 128)
 }
 
+// The number of 32 bits at a place. It isn't a test behind number_at, so that `following` is called from two places: the compiler
+// then leaves it outside the loops that read, and a number of one byte takes no call.
+fn small_at(bytes: &[u8], at: usize) -> Number
+    ensures { λ r. ⌜ r ≡ number-of (number-below (2 ^ 32) (now (bytes .entry)) at) ⌝ }
+{
+    if bytes.len() <= at {
+        return Number::Bad;
+    }
+    let first = wide(bytes[at]);
+    if first < 128 {
+        return Number::Value {
+            value: first,
+            next: at + 1,
+        };
+    }
+    let number = following(bytes, at + 1, first - 128);
+    let Number::Value { value, next } = number else {
+        return Number::Bad;
+    };
+    if 0x1_0000_0000 <= value {
+        return Number::Bad;
+    }
+    Number::Value { value, next }
+}
+
+// The number at a place: one of 32 bits where it is small, or of 64.
+fn number_within(bytes: &[u8], at: usize, small: bool) -> Number
+    ensures { λ r. ⌜ r ≡ number-of (number-below (limit small) (now (bytes .entry)) at) ⌝ }
+{
+    if small {
+        return small_at(bytes, at);
+    }
+    number_at(bytes, at)
+}
+
 // A reader that stands on lent bytes and moves along them.
 pub struct Reader<'a> {
     pub bytes: &'a [u8],
@@ -90,10 +126,10 @@ impl<'a> Reader<'a> {
     }
 
     // The field where the reader stands, and the place behind it.
-    pub fn number(self) -> Number
-        ensures { λ r. ⌜ r ≡ number-of (number-at (now (self .entry .bytes)) (self .entry .at)) ⌝ }
+    pub fn number(self, small: bool) -> Number
+        ensures { λ r. ⌜ r ≡ number-of (number-below (limit small) (now (self .entry .bytes)) (self .entry .at)) ⌝ }
     {
-        number_at(self.bytes, self.at)
+        number_within(self.bytes, self.at, small)
     }
 
     pub fn moved(self, at: usize) -> Reader<'a>
@@ -107,10 +143,10 @@ impl<'a> Reader<'a> {
 }
 
 // The field at a place: a reader is set there and takes it.
-pub fn field(bytes: &[u8], at: usize) -> Number
-    ensures { λ number. ⌜ number ≡ number-of (number-at (now (bytes .entry)) at) ⌝ }
+pub fn field(bytes: &[u8], at: usize, small: bool) -> Number
+    ensures { λ number. ⌜ number ≡ number-of (number-below (limit small) (now (bytes .entry)) at) ⌝ }
 {
-    Reader::new(bytes, at).number()
+    Reader::new(bytes, at).number(small)
 }
 
 // How many bytes a number takes.

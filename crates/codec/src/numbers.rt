@@ -32,13 +32,10 @@ pub fn read_numbers(bytes: &[u8], start: usize, out: &mut [u32], first: usize, e
     let mut at = start;
     let mut i = first;
     while i < end {
-        let number = field(bytes, at);
+        let number = field(bytes, at, true);
         let Number::Value { value, next } = number else {
             return Place::Bad;
         };
-        if 0x1_0000_0000 <= value {
-            return Place::Bad;
-        }
         out[i] = value as u32;
         at = next;
         i += 1;
@@ -54,7 +51,7 @@ pub fn read_longs(bytes: &[u8], start: usize, out: &mut [u64], first: usize, end
     let mut at = start;
     let mut i = first;
     while i < end {
-        let number = field(bytes, at);
+        let number = field(bytes, at, false);
         let Number::Value { value, next } = number else {
             return Place::Bad;
         };

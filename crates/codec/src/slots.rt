@@ -31,7 +31,7 @@ fn read_slot(
     ensures { λ r. ⌜ r ≡ place-of (slot (2 ^ 64) before after .read (now (bytes .entry)) start) ⌝ }
     ensures { λ _. ⌜ Stored (slot (2 ^ 64) before after .read (now (bytes .entry)) start) (now (out .entry)) first (now (out .exit)) ⌝ }
 {
-    let number = field(bytes, start);
+    let number = field(bytes, start, false);
     let Number::Value { value, next } = number else {
         return Place::Bad;
     };

@@ -75,7 +75,7 @@ module _ (f : Workflow) (sheet : Sound f) (limit : ℕ) (e : Event) (m : Mapping
   Fine s (Enter n b) = Tidy.After f s (Enter n b)
   Fine s Take = Tidy.After f s Take
   Fine s Consume = Tidy.After f s Consume
-  Fine s (Wants n i b) = Unit {0}
+  Fine s (Wants n i b) = Tidy.After f s (Wants n i b)
   Fine s (Refuse k) = ((k ≡ no-retry) ⊎ (k ≡ unencodable)) ⊎ ((k ≡ microsteps-exceeded) × (limit < 130))
 
   fine : (s : State) (n : Next) → Tidy.After f s n → Fine s n

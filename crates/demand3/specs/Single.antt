@@ -47,7 +47,7 @@ use Rattle.demand3.specs.Driver.{Checks, checked-driven}
 -- THE CLAIM, of the answer to a call that came to a count of microsteps.
 abbrev pub Proper : Workflow → Answer → Type 0
 Proper f (next a) = record { checked : consistent f (a .state) ≡ true; few-notes : length (a .notes) ≤ 65; few-endings : length (a .endings) ≤ 65; sized : Sized (a .state) }
-Proper f (wants n i b w) = Unit {0}
+Proper f (wants n i b w) = Tidy.Tidies f w
 Proper f (refused k i) = k ≡ invariant → ⊥
 
 pub record Single (f : Workflow) (c : Call) (count : ℕ) (x : Answer) : Type 0 where
@@ -196,7 +196,7 @@ module _ (f : Workflow) (sheet : Sound f) (c : Call) (s : State) (b : Begins f s
   finishes (Enter n j) z h = absurd (omega (arith, h .bounds .enough))
   finishes Take z h = absurd (omega (arith, h .bounds .enough))
   finishes Consume z h = absurd (omega (arith, h .bounds .enough))
-  finishes (Wants n i j) z h = record { proper = tt; few = few; reports = tt; never-26 = tt }
+  finishes (Wants n i j) z h = record { proper = h .checks; few = few; reports = tt; never-26 = tt }
   finishes (Refuse k) z h = by (h .checks)
     where
       by : ((k ≡ no-retry) ⊎ (k ≡ unencodable)) ⊎ ((k ≡ microsteps-exceeded) × (c .limits .microsteps < 130)) → Single f c all-steps (refused k none)

@@ -178,7 +178,7 @@ module _ (f : Workflow) where
   After s (Enter n b) = On s n
   After s Take = Waiting s
   After s Consume = Waiting s
-  After s (Wants n i b) = Unit {0}
+  After s (Wants n i b) = Tidies s
   After s (Refuse k) = (k ≡ 27) ⊎ (k ≡ 28)
 
   -- A good move.
@@ -324,7 +324,7 @@ module _ (f : Workflow) where
   good-evaluate (Evaluated.Value x) s n i b r k t h = h x
   good-evaluate (Evaluated.Fault c d) s n i b r k t h = record { after = good-terminate s _ t .after }
   good-evaluate Evaluated.Unencodable s n i b r k t h = record { after = inr refl }
-  good-evaluate Evaluated.Lacking s n i b r k t h = record { after = tt }
+  good-evaluate Evaluated.Lacking s n i b r k t h = record { after = t }
 
   module _ (s : State) (n : ℕ) (on : On s n) (visited : 0 < visits-of s n .count) where
     arrived : Here (s .result .output) (s .visits) (position n (visits-of s n .count))

@@ -1,5 +1,7 @@
 //! The plain reading behind the library's boundary: numbers in, numbers out (include/kuxhoveza.h).
 
+pub mod bytes;
+
 use calls::layout::{self, ANSWER, CALL, RECORD, SHEET, VERDICT};
 use calls::numbers::{self, Carried};
 use calls::{Ceilings, State};

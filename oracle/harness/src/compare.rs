@@ -23,7 +23,7 @@ fn threads() -> usize {
 }
 
 /// Calls `work` with each seed, on several threads.
-fn each_seed(seeds: &[u64], work: impl Fn(u64) + Sync) {
+pub fn each_seed(seeds: &[u64], work: impl Fn(u64) + Sync) {
     let next = AtomicUsize::new(0);
     std::thread::scope(|scope| {
         for _ in 0..threads().min(seeds.len()) {

@@ -5,6 +5,9 @@
 //! harness library SEED.. [--calls N] [--fast] [--first]
 //!                                               the original against the linked library and the plain reading, on
 //!                                               histories of all lengths
+//! harness bytes SEED.. [--calls N] [--damaged N] [--first]
+//!                                               the library's functions of bytes against a second reading of
+//!                                               docs/BYTES.md, on N calls and N damaged inputs a seed
 //! harness wrong SEED.. [--calls N]              after how many calls each wrong reading is found
 //! harness joint                                 the cases of Joint A on both
 //! harness recorded FILE..                       recorded calls and answers, in text form, on both
@@ -18,6 +21,12 @@
 mod asked;
 mod compare;
 mod counts;
+#[cfg(feature = "library")]
+mod damage;
+#[cfg(feature = "library")]
+mod fence;
+#[cfg(feature = "library")]
+mod in_bytes;
 #[cfg(feature = "library")]
 mod library;
 mod reasons;
@@ -35,6 +44,7 @@ use reasons::Reason;
 struct Arguments {
     seeds: Vec<u64>,
     calls: u64,
+    damaged: u64,
     fast: bool,
     first: bool,
 }
@@ -43,6 +53,7 @@ fn arguments(words: &[String]) -> Result<Arguments, String> {
     let mut arguments = Arguments {
         seeds: Vec::new(),
         calls: 100_000,
+        damaged: 1_000_000,
         fast: false,
         first: false,
     };
@@ -50,9 +61,12 @@ fn arguments(words: &[String]) -> Result<Arguments, String> {
     while let Some(word) = words.next() {
         let number = |word: &str| word.parse().map_err(|_| format!("{word:?} is no number"));
         match word.as_str() {
-            "--calls" => {
-                let word = words.next().ok_or("--calls needs a number")?;
-                arguments.calls = number(word)?;
+            "--calls" | "--damaged" => {
+                let count = words.next().ok_or(format!("{word} needs a number"))?;
+                match word.as_str() {
+                    "--calls" => arguments.calls = number(count)?,
+                    _ => arguments.damaged = number(count)?,
+                }
             }
             "--fast" => arguments.fast = true,
             "--first" => arguments.first = true,
@@ -89,10 +103,16 @@ fn compare(arguments: &Arguments) -> bool {
 }
 
 #[cfg(feature = "library")]
-fn library(arguments: &Arguments) -> Result<bool, String> {
-    if !kuxhoveza::layout_matches() {
-        return Err("the library's layout is of another version than the header's".to_string());
+fn one_layout() -> Result<(), String> {
+    match kuxhoveza::layout_matches() {
+        true => Ok(()),
+        false => Err("the library's layout is of another version than the header's".to_string()),
     }
+}
+
+#[cfg(feature = "library")]
+fn library(arguments: &Arguments) -> Result<bool, String> {
+    one_layout()?;
     let library = compare::Side {
         name: "library",
         answer: library::answer,
@@ -106,10 +126,26 @@ fn library(arguments: &Arguments) -> Result<bool, String> {
     Ok(comparison.run(&arguments.seeds, arguments.calls))
 }
 
+#[cfg(feature = "library")]
+fn in_bytes(arguments: &Arguments) -> Result<bool, String> {
+    one_layout()?;
+    let Arguments {
+        seeds,
+        calls,
+        damaged,
+        first,
+        ..
+    } = arguments;
+    in_bytes::run(seeds, *calls, *damaged, *first)
+}
+
 #[cfg(not(feature = "library"))]
 fn library(_: &Arguments) -> Result<bool, String> {
     Err("built without the library: sh oracle/library".to_string())
 }
+
+#[cfg(not(feature = "library"))]
+use library as in_bytes;
 
 fn joint() -> bool {
     let mut good = true;
@@ -140,6 +176,7 @@ fn run(words: &[String]) -> Result<bool, String> {
     match command.as_str() {
         "compare" => Ok(compare(&arguments(rest)?)),
         "library" => library(&arguments(rest)?),
+        "bytes" => in_bytes(&arguments(rest)?),
         "wrong" => {
             let arguments = arguments(rest)?;
             Ok(compare::wrong(&arguments.seeds, arguments.calls))

@@ -221,15 +221,19 @@ fn readme(seed: u64, sample: &Sample) -> String {
     )
 }
 
-/// Reads the sample back and compares it with both.
-pub fn read() -> Result<bool, String> {
+/// The sample's calls and answers.
+pub fn recorded() -> Result<Vec<(Call, Answer)>, String> {
     let path = folder().join("../../crates/replay/stdin");
     let text = fs::read_to_string(&path).map_err(|why| format!("{path:?}: {why}"))?;
+    numbers::Groups::new(&text).collect()
+}
+
+/// Reads the sample back and compares it with both.
+pub fn read() -> Result<bool, String> {
     let readings = wrong::readings();
     let mut told = vec![0; readings.len()];
     let (mut calls, mut differences) = (0, 0);
-    for group in numbers::Groups::new(&text) {
-        let (call, answer) = group?;
+    for (call, answer) in recorded()? {
         calls += 1;
         for reading in tells(&readings, &told, &call, &answer) {
             told[reading] += 1;

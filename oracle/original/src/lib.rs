@@ -89,6 +89,38 @@ impl Asked {
     pub fn transition(&self) -> Result<Decision, Failure> {
         run(&self.request, self.answers.clone()).result
     }
+
+    /// The sheet's JSON.
+    pub fn sheet(&self) -> &[u8] {
+        &self.request.request.graph
+    }
+
+    /// The run's JSON, where there is one.
+    pub fn run(&self) -> Option<&[u8]> {
+        self.request.request.snapshot.as_deref()
+    }
+
+    /// The event's JSON, without what stands in its envelope.
+    pub fn event(&self) -> &[u8] {
+        &self.request.request.input_event.payload
+    }
+}
+
+/// The sheet of the original, from its JSON, without any rule.
+pub fn read_sheet(json: &[u8]) -> model::Workflow {
+    serde_json::from_slice(json).expect("a sheet's JSON")
+}
+
+pub fn write_sheet(sheet: &model::Workflow) -> Vec<u8> {
+    serde_json::to_vec(sheet).expect("a sheet has JSON")
+}
+
+pub fn read_run(json: &[u8]) -> model::State {
+    serde_json::from_slice(json).expect("a run's JSON")
+}
+
+pub fn write_run(run: &model::State) -> Vec<u8> {
+    serde_json::to_vec(run).expect("a run has JSON")
 }
 
 /// What a call of the original gave back and what its stand-ins saw.
@@ -139,7 +171,7 @@ fn wants(wanted: &Wanted) -> Answer {
 }
 
 fn decoded(decision: &Decision) -> model::State {
-    serde_json::from_slice(&decision.snapshot).expect("a snapshot is a state")
+    read_run(&decision.snapshot)
 }
 
 fn next(call: &Call, decision: &Decision, script: &Script) -> Answer {

@@ -1,5 +1,5 @@
 //! Kuxhoveza for hosts in Rust: safe calls of the library's functions, without heap. docs/NUMBERS.md says what the
-//! numbers mean.
+//! numbers mean; `bytes` stores them and makes calls in bytes (docs/BYTES.md).
 //!
 //! A run is a list of calls on one sheet, each on the record of the last accepted one:
 //!
@@ -25,6 +25,7 @@
 #![no_std]
 #![deny(unsafe_op_in_unsafe_fn)]
 
+pub mod bytes;
 pub mod raw;
 
 /// Lengths, capacities and offsets, as in include/kuxhoveza.h.

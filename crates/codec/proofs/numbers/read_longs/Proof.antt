@@ -50,7 +50,7 @@ loop-less c = search needs
 loop-again : tie.Need-loop-again Inv-loop μ-loop
 loop-again c =
     let c1 = c .before .before .before in
-    reading-more (c1 .before .before .loop .inv) (value-got (c1 .field .ensures) (c .before .number .given .1)) (search needs) (c1 .before .loop-test .taken)
+    reading-more (c1 .before .before .loop .inv) (value-got (c1 .field .ensures) (c .before .number .given .1)) (c1 .before .loop-test .taken)
 
 same-length-2 : tie.Need-same-length-2 Inv-loop μ-loop
 same-length-2 c = reading-long (c .before .loop .inv)

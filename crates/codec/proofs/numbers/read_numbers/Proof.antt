@@ -2,8 +2,9 @@ use Prim.Native.Nat.{_-_, _^_}
 use native.Mathlib.Omega.{arith}
 use borrow.Author.Needs.{needs}
 use Rattle.codec.specs.Numbers.{numbers-at}
+use Rattle.codec.specs.NumbersLaws.{tested-below}
 use Rattle.codec.specs.StoredLaws.{value-got, value-bad, bad-place, bad-stored, got-place, got-stored}
-use Rattle.codec.specs.NumbersLoops.{Reading, reading-start, reading-long, reading-bad, reading-large, reading-more, reading-end}
+use Rattle.codec.specs.NumbersLoops.{Reading, reading-start, reading-long, reading-bad, reading-more, reading-end}
 use Rattle.codec.proofs.numbers.read_numbers.Statement.{statement}
 use Rattle.codec.proofs.numbers.read_numbers.Tie as tie
 
@@ -35,24 +36,14 @@ returns c =
     let none = reading-bad inv (value-bad (c .before .before .field .ensures) (c .enum-told .given .1)) (c1 .loop-test .taken) in
     (bad-place none, bad-stored none (reading-long inv))
 
-same-length-2 : tie.Need-same-length-2 Inv-loop μ-loop
-same-length-2 c = reading-long (c .before .before .before .before .before .before .loop .inv)
-
-returns-2 : tie.Need-returns-2 Inv-loop μ-loop
-returns-2 c =
-    let c1 = c .before .before .before .before in
-    let inv = c1 .before .before .loop .inv in
-    let none = reading-large inv (value-got (c1 .field .ensures) (c .before .before .number .given .1)) (c .if1 .taken) (c1 .before .loop-test .taken) in
-    (bad-place none, bad-stored none (reading-long inv))
-
 cast-out : tie.Need-cast-out Inv-loop μ-loop
-cast-out c = search needs
+cast-out c = record { fits = tested-below (2 ^ 32) _ _ _ (value-got (c .before .before .before .field .ensures) (c .before .number .given .1)) .1 }
 
 mul-out : tie.Need-mul-out Inv-loop μ-loop
-mul-out c = omega (arith, reading-long (c .before .before .before .before .before .before .loop .inv), c .before .before .before .before .before .before .loop .inv .room)
+mul-out c = omega (arith, reading-long (c .before .before .before .before .before .loop .inv), c .before .before .before .before .before .loop .inv .room)
 
 slice-write-out : tie.Need-slice-write-out Inv-loop μ-loop
-slice-write-out c = omega (arith, reading-long (c .before .before .before .before .before .before .loop .inv), c .before .before .before .before .before .before .loop .inv .room)
+slice-write-out c = omega (arith, reading-long (c .before .before .before .before .before .loop .inv), c .before .before .before .before .before .loop .inv .room)
 
 add-i : tie.Need-add-i Inv-loop μ-loop
 add-i c = search needs
@@ -62,14 +53,14 @@ loop-less c = search needs
 
 loop-again : tie.Need-loop-again Inv-loop μ-loop
 loop-again c =
-    let c1 = c .before .before .before .before in
-    reading-more (c1 .before .before .loop .inv) (value-got (c1 .field .ensures) (c .before .before .number .given .1)) (c .if1 .left) (c1 .before .loop-test .taken)
+    let c1 = c .before .before .before in
+    reading-more (c1 .before .before .loop .inv) (value-got (c1 .field .ensures) (c .before .number .given .1)) (c1 .before .loop-test .taken)
 
-same-length-3 : tie.Need-same-length-3 Inv-loop μ-loop
-same-length-3 c = reading-long (c .before .loop .inv)
+same-length-2 : tie.Need-same-length-2 Inv-loop μ-loop
+same-length-2 c = reading-long (c .before .loop .inv)
 
-returns-3 : tie.Need-returns-3 Inv-loop μ-loop
-returns-3 c =
+returns-2 : tie.Need-returns-2 Inv-loop μ-loop
+returns-2 c =
     let inv = c .before .loop .inv in
     let all = reading-end inv (c .loop-test .left) in
     (got-place all, got-stored all (inv .so-far) (reading-long inv))
@@ -86,13 +77,11 @@ read-numbers-spec =
     enum-told
     same-length
     returns
-    same-length-2
-    returns-2
     cast-out
     mul-out
     slice-write-out
     add-i
     loop-less
     loop-again
-    same-length-3
-    returns-3)
+    same-length-2
+    returns-2)

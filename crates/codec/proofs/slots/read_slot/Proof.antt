@@ -22,8 +22,8 @@ returns-2 c =
     let a = s .args in
     let g = value-got (called .field .ensures) (number .number .given .1) in
     let z = c .if1 .taken in (
-      got-place (unused-read (2 ^ 64) (a .before) (a .after) (a .bytes .now) (a .start) g (search needs) z),
-      unused-stored (2 ^ 64) (a .before) (a .after) (a .bytes .now) (a .start) g (search needs) z (s .pre .1) (s .pre .0),
+      got-place (unused-read (2 ^ 64) (a .before) (a .after) (a .bytes .now) (a .start) g z),
+      unused-stored (2 ^ 64) (a .before) (a .after) (a .bytes .now) (a .start) g z (s .pre .1) (s .pre .0),
     )
 
 read-longs-requires : tie.Need-read-longs-requires
@@ -39,7 +39,7 @@ returns-3 c =
     let g = value-got (called .field .ensures) (number .number .given .1) in
     let e : a .first + a .before - a .first ≡ a .before = omega arith in
     let f = at-bad (rw e at (one .read-longs .ensures .0)) (c .enum-told2 .given .1) in
-    let b = used-bad (2 ^ 64) (a .before) (a .after) (a .bytes .now) (a .start) g (search needs) (tested .if1 .left) f in
+    let b = used-bad (2 ^ 64) (a .before) (a .after) (a .bytes .now) (a .start) g (tested .if1 .left) f in
     (bad-place b, bad-stored b (one .read-longs .ensures .1 .long))
 
 read-longs-requires-2 : tie.Need-read-longs-requires-2
@@ -70,8 +70,8 @@ returns-4 c =
     let h : lead + 1 + a .after - (lead + 1) ≡ a .after = omega arith in
     let f = at-got (rw e at (one .read-longs .ensures .0)) (place .place .given .1) in
     let l = (rw e at (one .read-longs .ensures .1)) .is (f .value) _ (f .is) in (
-      (rw h at (two .read-longs2 .ensures .0)) ∙ used-place (2 ^ 64) (a .before) (a .after) (a .bytes .now) (a .start) g (search needs) (tested .if1 .left) (f .is),
-      used-stored (2 ^ 64) (a .before) (a .after) (a .bytes .now) (a .start) g (search needs) (tested .if1 .left) (f .is) (a .first) (s .pre .0) (rw (← l) (rw h at (two .read-longs2 .ensures .1))),
+      (rw h at (two .read-longs2 .ensures .0)) ∙ used-place (2 ^ 64) (a .before) (a .after) (a .bytes .now) (a .start) g (tested .if1 .left) (f .is),
+      used-stored (2 ^ 64) (a .before) (a .after) (a .bytes .now) (a .start) g (tested .if1 .left) (f .is) (a .first) (s .pre .0) (rw (← l) (rw h at (two .read-longs2 .ensures .1))),
     )
 
 pub read-slot-spec : {M : Type 1} → statement M
