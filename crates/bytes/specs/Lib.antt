@@ -11,4 +11,9 @@ pub mod SheetLaws
 pub mod StagesLoops
 pub mod RunLaws
 pub mod AnswerLaws
+pub mod StagesLeft
+pub mod CallLaws
+pub mod RestSteps
+pub mod CallSteps
+pub mod EventLaws
 pub mod BoundaryLaws
