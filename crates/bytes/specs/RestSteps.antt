@@ -4,23 +4,22 @@ use mathlib.Core.Bool.{Bool, true, false}
 use mathlib.Core.List.{List, [], _∷_, _++_, append-assoc}
 use Prim.Native.Nat.{ℕ, zero, suc, _+_, _*_, _-_, _^_, _≤_, _<_}
 use native.Mathlib.Omega.{arith}
-use lib.Dec.{ltb, eqb}
+use lib.Dec.{eqb}
 use lib.ListN.{length, getD, take, drop, replicate, length-append, length-replicate}
 use lib.Seq.{take-at, drop-at, getD-append-add}
-use borrow.Author.Tests.{ltb-false, lt-ltb, le-ltb}
-use Rattle.laws.specs.Bool.{if_then_else_, split, if-true, if-false}
+use Rattle.laws.specs.Bool.{if_then_else_, split}
 use Rattle.laws.specs.Splice.{splice, splice-all, splice-more, length-splice}
 use Rattle.laws.specs.Listing.{padded}
 use Rattle.host.specs.Layout as layout
 use Rattle.codec.specs.declared.numbers.Place.{Place}
-use Rattle.codec.specs.Read.{Read, got, bad, onward, tested}
+use Rattle.codec.specs.Read.{Read, got, bad, onward}
 use Rattle.codec.specs.Leb.{number-at}
 use Rattle.codec.specs.Numbers.{number-below, numbers-at}
 use Rattle.codec.specs.Stages.{numbers, column, Stage}
 use Rattle.codec.specs.Stored.{place-of, Stored, Zero-from}
 use Rattle.codec.specs.Exact.{Bytes, not-bad}
 use Rattle.codec.specs.ReadLaws.{both-read}
-use Rattle.codec.specs.NumbersLaws.{numbers-long}
+use Rattle.codec.specs.NumbersLaws.{below-got, below-over, below-bad, below-any, numbers-long}
 use Rattle.codec.specs.StoredLaws.{at-got, at-bad, bad-place, got-place, got-stored}
 use Rattle.codec.specs.ShapesLoops.{getD-splice}
 use Rattle.codec.specs.ColumnsLaws.{column-read}
@@ -61,44 +60,45 @@ module _ (top : ℕ) (bytes : List ℕ) where
       rw e (by-first j k (number-below top bytes at) (numbers-two j k))
 
 -- ONE NUMBER, tested after it was read.
-module _ (top : ℕ) (low : top ≤ 2 ^ 64) (bytes : List ℕ) (at : ℕ) where
-  abbrev one : (top : ℕ) → Read ℕ → Read (List ℕ)
-  one most r = onward (tested (λ n. ltb n most) r) (λ n p. onward (got [] p) (λ ns q. got (n ∷ ns) q))
+module _ (bytes : List ℕ) (at : ℕ) where
+  abbrev just : Read ℕ → Read (List ℕ)
+  just r = onward r (λ n p. onward (got [] p) (λ ns q. got (n ∷ ns) q))
 
-  bad-one : (r : Read ℕ) → one (2 ^ 64) r ≡ bad → one top r ≡ bad
-  unfolding tested onward if_then_else_
-  bad-one bad e = refl
-  bad-one (got n p) e = split (ltb n (2 ^ 64)) (λ t. not-bad (sym (rw t at e))) (λ t. let h = ltb-false n (2 ^ 64) t in rw (le-ltb n top (omega arith)))
+  any-number : numbers-at (2 ^ 64) 1 bytes at ≡ just (number-at bytes at)
+  unfolding numbers-at
+  any-number = rw (below-any bytes at)
 
-  got-one : (r : Read ℕ) {ns : List ℕ} {p : ℕ} → one (2 ^ 64) r ≡ got ns p → one top r ≡ (if ltb (getD ns 0 0) top then got ns p else bad)
-  unfolding tested onward if_then_else_
-  got-one bad e = not-bad e
-  got-one (got n q) {ns} {p} e =
-      split (ltb n (2 ^ 64))
-      (λ t.
-      let f : got (n ∷ []) q ≡ got ns p = rw t at e in
+  no-number : (r : Read ℕ) → just r ≡ bad → r ≡ bad
+  unfolding onward
+  no-number bad e = refl
+  no-number (got n p) e = not-bad (sym e)
+
+  the-number : (r : Read ℕ) {ns : List ℕ} {p : ℕ} → just r ≡ got ns p → (r ≡ got (getD ns 0 0) p) × (ns ≡ getD ns 0 0 ∷ [])
+  unfolding onward
+  the-number bad e = not-bad e
+  the-number (got n q) {ns} {p} e =
       let x : n ∷ [] ≡ ns = cc in
       let y : q ≡ p = cc in
-      rw (← x, ← y) (split (ltb n top) (λ s. rw s) (λ s. rw s)))
-      (λ t. not-bad (rw t at e))
+      rw (← x, ← y) (refl, refl)
 
-  one-bad : numbers-at (2 ^ 64) 1 bytes at ≡ bad → numbers-at top 1 bytes at ≡ bad
-  unfolding numbers-at
-  one-bad e = bad-one (number-at bytes at) e
+  module _ (top : ℕ) where
+    one-bad : numbers-at (2 ^ 64) 1 bytes at ≡ bad → numbers-at top 1 bytes at ≡ bad
+    unfolding numbers-at onward
+    one-bad e = rw (below-bad top (no-number (number-at bytes at) (sym any-number ∙ e)))
 
-  module _ {ns : List ℕ} {p : ℕ} (e : numbers-at (2 ^ 64) 1 bytes at ≡ got ns p) where
-    one-over : top ≤ getD ns 0 0 → numbers-at top 1 bytes at ≡ bad
-    unfolding numbers-at
-    one-over h = got-one (number-at bytes at) e ∙ if-false _ _ _ (le-ltb (getD ns 0 0) top h)
+    module _ {ns : List ℕ} {p : ℕ} (e : numbers-at (2 ^ 64) 1 bytes at ≡ got ns p) where
+      one-over : top ≤ getD ns 0 0 → numbers-at top 1 bytes at ≡ bad
+      unfolding numbers-at onward
+      one-over h = rw (below-over top (the-number (number-at bytes at) (sym any-number ∙ e) .0) h)
 
-    one-below : getD ns 0 0 < top → numbers-at top 1 bytes at ≡ got ns p
-    unfolding numbers-at
-    one-below h = got-one (number-at bytes at) e ∙ if-true _ _ _ (lt-ltb (getD ns 0 0) top h)
+      one-below : getD ns 0 0 < top → numbers-at top 1 bytes at ≡ got ns p
+      unfolding numbers-at onward
+      one-below h =
+          let t = the-number (number-at bytes at) (sym any-number ∙ e) in
+          rw (below-got top (t .0) h, ← t .1)
 
-single : (ns : List ℕ) → length ns ≡ 1 → ns ≡ getD ns 0 0 ∷ []
-single [] e = absurd (omega arith)
-single (n ∷ []) e = refl
-single (n ∷ m ∷ ns) e = absurd (omega arith)
+  single : {ns : List ℕ} {p : ℕ} → numbers-at (2 ^ 64) 1 bytes at ≡ got ns p → ns ≡ getD ns 0 0 ∷ []
+  single e = the-number (number-at bytes at) (sym any-number ∙ e) .1
 
 -- THE MARK.
 abbrev event-on : List Stage
@@ -124,7 +124,7 @@ pub record Marked (bytes : List ℕ) (whole : Read (List ℕ)) (before : List �
 module _ (bytes : List ℕ) (start : ℕ) {z : Place} (answer : z ≡ place-of (numbers-at (2 ^ 64) 1 bytes start)) where
   pub mark-bad : z ≡ Place.Bad → rest .read bytes start ≡ bad
   unfolding numbers
-  mark-bad b = left-bad (rest-start bytes start) (one-bad 2 (omega arith) bytes start (at-bad answer b))
+  mark-bad b = left-bad (rest-start bytes start) (one-bad bytes start 2 (at-bad answer b))
 
   module _ {before call : List ℕ} {p : ℕ} (e : z ≡ Place.At p) (long : length before ≡ layout.call-length) (stored : Stored (numbers-at (2 ^ 64) 1 bytes start) before layout.call-has-record call) where
     abbrev number : ℕ
@@ -136,17 +136,17 @@ module _ (bytes : List ℕ) (start : ℕ) {z : Place} (answer : z ≡ place-of (
         let g = at-got answer e in
         let n = numbers-long (2 ^ 64) bytes 1 start (g .value) p (g .is) in
         let m : number ≡ getD (g .value) 0 0 = rw (stored .is (g .value) p (g .is)) (getD-splice before layout.call-has-record (g .value) 0 (omega arith) (omega arith)) in
-        rw (m, ← single (g .value) n) (g .is)
+        rw (m, ← single bytes start (g .is)) (g .is)
 
     pub mark-over : 1 < number → rest .read bytes start ≡ bad
     unfolding numbers
-    mark-over h = left-bad (rest-start bytes start) (one-over 2 (omega arith) bytes start number-read (omega arith))
+    mark-over h = left-bad (rest-start bytes start) (one-over bytes start 2 number-read (omega arith))
 
     pub mark-read : number ≤ 1 → Zero-from layout.call-has-record before → Marked bytes (rest .read bytes start) before p call
     unfolding numbers
     mark-read h blank =
         record {
-          left = left-more (rest-start bytes start) (one-below 2 (omega arith) bytes start number-read (omega arith));
+          left = left-more (rest-start bytes start) (one-below bytes start 2 number-read (omega arith));
           held = record { is = stored .is (number ∷ []) p number-read; blank = blank; long = long };
         }
 
@@ -216,7 +216,7 @@ module _ {bytes : List ℕ} {whole : Read (List ℕ)} {before : List ℕ} {at : 
   behind-event : (r : Read (List ℕ)) → numbers-at (2 ^ 64) layout.event-length bytes at ≡ r → onward r (λ xs p. onward (numbers-at (2 ^ 64) 1 bytes p) (λ ys q. got (xs ++ ys) q)) ≡ bad → whole ≡ bad
   unfolding numbers onward
   behind-event bad f e = left-bad (inv .left) f
-  behind-event (got xs p) f e = left-bad (left-more (inv .left) f) (one-bad 3 (omega arith) bytes p (no-count (numbers-at (2 ^ 64) 1 bytes p) e))
+  behind-event (got xs p) f e = left-bad (left-more (inv .left) f) (one-bad bytes p 3 (no-count (numbers-at (2 ^ 64) 1 bytes p) e))
     where
       no-count : (r : Read (List ℕ)) → onward r (λ ys q. got (xs ++ ys) q) ≡ bad → r ≡ bad
       no-count bad e = refl
@@ -261,14 +261,14 @@ module _ {bytes : List ℕ} {whole : Read (List ℕ)} {before : List ℕ} {at : 
           let i : layout.event-length ≡ length (a .value) + 0 = omega arith in
           let c : count-of ≡ getD (b .value) 0 0 =
           ap (λ (l : List ℕ). getD l layout.call-answered 0) s ∙ (getD-splice call layout.call-sequence (a .value ++ b .value) layout.event-length (omega arith) (omega arith) ∙ ap (λ j. getD (a .value ++ b .value) j 0) i ∙ getD-append-add (a .value) (b .value) 0 0) in
-          let v : b .value ≡ count-of ∷ [] = single (b .value) m ∙ ap (λ (n : ℕ). n ∷ []) (sym c) in
+          let v : b .value ≡ count-of ∷ [] = single bytes (a .place) (b .one) ∙ ap (λ (n : ℕ). n ∷ []) (sym c) in
           record { xs = a .value; place = a .place; first = a .one; second = rw (v, y) at (b .one); is = s ∙ ap (λ (l : List ℕ). splice call layout.call-sequence (a .value ++ l)) v; long = n }
 
       pub count-over : layout.mappings < count-of → whole ≡ bad
       unfolding numbers
       count-over h =
           let t = two-parts in
-          left-bad (left-more (inv .left) (t .first)) (one-over 3 (omega arith) bytes (t .place) (t .second) (omega arith))
+          left-bad (left-more (inv .left) (t .first)) (one-over bytes (t .place) 3 (t .second) (omega arith))
 
       pub count-read : count-of ≤ layout.mappings → Counted bytes whole before p after run
       unfolding numbers
@@ -285,7 +285,7 @@ module _ {bytes : List ℕ} {whole : Read (List ℕ)} {before : List ℕ} {at : 
           record {
             mark = mark;
             event = event;
-            left = rw append-assoc at (left-more (left-more (inv .left) (t .first)) (one-below 3 (omega arith) bytes (t .place) (t .second) (omega arith)));
+            left = rw append-assoc at (left-more (left-more (inv .left) (t .first)) (one-below bytes (t .place) 3 (t .second) (omega arith)));
             is = t .is ∙ ap (λ (xs : List ℕ). splice xs layout.call-sequence event) (held .is) ∙ splice-more before layout.call-has-record (mark ∷ []) event layout.call-sequence (omega arith) (omega arith);
             many = k;
             count = ap (λ j. getD (mark ∷ run ++ event) j 0) i ∙ getD-append-add (mark ∷ run) event (length (t .xs) + 0) 0 ∙ getD-append-add (t .xs) (count-of ∷ []) 0 0;
