@@ -1,20 +1,18 @@
 -- A call as bytes, both ways.
 use mathlib.Core.Path.{_≡_, refl}
-use mathlib.Core.List.{List, [], _∷_}
+use mathlib.Core.List.{[], _∷_}
 use Prim.Native.Nat.{ℕ, _+_, _*_, _^_, _≤_}
 use native.Mathlib.Omega.{arith}
 use lib.Dec.{eqb}
 use lib.ListN.{getD}
 use Rattle.laws.specs.All.{All}
 use Rattle.laws.specs.Bool.{either}
-use Rattle.workflow.specs.Layout.{numbers as sheet-length}
 use Rattle.host.specs.Layout as layout
-use Rattle.codec.specs.Stages.{Shape, numbers, column, Stage, widths}
+use Rattle.codec.specs.Stages.{Shape, numbers, column, widths}
 use Rattle.codec.specs.Exact.{Exact}
 use Rattle.codec.specs.NumbersLaws.{numbers-exact}
 use Rattle.codec.specs.ColumnsLaws.{column-exact, Stage-exact, staged-width, staged-exact}
 use Rattle.bytes.specs.Event.{event}
-use Rattle.bytes.specs.Run.{run}
 use Rattle.bytes.specs.RunLaws.{numbers-stage, column-stage, run-width, run-exact}
 use Rattle.bytes.specs.SheetLaws.{sheet-exact, sheet-width}
 use Rattle.bytes.specs.Call.{mark, given-shape, given, event-numbers, answered, answers, rest, limits, the-sheet, the-rest, call, call-on}

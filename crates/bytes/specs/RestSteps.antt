@@ -21,9 +21,10 @@ use Rattle.codec.specs.Exact.{Bytes, not-bad}
 use Rattle.codec.specs.ReadLaws.{both-read}
 use Rattle.codec.specs.NumbersLaws.{below-got, below-over, below-bad, below-any, numbers-long}
 use Rattle.codec.specs.StoredLaws.{at-got, at-bad, bad-place, got-place, got-stored}
-use Rattle.codec.specs.ShapesLoops.{getD-splice}
+use Rattle.codec.specs.ShapesLoops.{nothing-yet, getD-splice, behind}
 use Rattle.codec.specs.ColumnsLaws.{column-read}
-use Rattle.codec.specs.Zeros.{padded-long, zero-behind, splice-padded}
+use Rattle.codec.specs.ColumnsLoops.{column-place, column-long, column-stored}
+use Rattle.codec.specs.Zeros.{zero-behind}
 use Rattle.bytes.specs.Run.{run}
 use Rattle.bytes.specs.Call.{mark, given-shape, marked, given, event-numbers, answered, answers, rest}
 use Rattle.bytes.specs.CallStored.{Rest-stored}
@@ -32,29 +33,19 @@ use Rattle.bytes.specs.StagesLeft.{read-long, Left, left-start, left-bad
 
 -- NUMBERS in two parts.
 module _ (top : ℕ) (bytes : List ℕ) where
-  with-more : (n : ℕ) (xs : List ℕ) (r : Read (List ℕ)) → onward (onward r (λ ys q. got (xs ++ ys) q)) (λ ns q. got (n ∷ ns) q) ≡ onward r (λ ys q. got (n ∷ xs ++ ys) q)
-  unfolding onward
-  with-more n xs bad = refl
-  with-more n xs (got ys q) = refl
-
   one-more : (n k : ℕ) (r : Read (List ℕ)) → onward (onward r (λ xs p. onward (numbers-at top k bytes p) (λ ys q. got (xs ++ ys) q))) (λ ns q. got (n ∷ ns) q) ≡ onward (onward r (λ xs p. got (n ∷ xs) p)) (λ xs p. onward (numbers-at top k bytes p) (λ ys q. got (xs ++ ys) q))
   unfolding onward
   one-more n k bad = refl
-  one-more n k (got xs p) = with-more n xs (numbers-at top k bytes p)
+  one-more n k (got xs p) = sym (behind (n ∷ []) xs (numbers-at top k bytes p))
 
   by-first : (j k : ℕ) (r : Read ℕ) → ((p : ℕ) → numbers-at top (j + k) bytes p ≡ onward (numbers-at top j bytes p) (λ xs q. onward (numbers-at top k bytes q) (λ ys t. got (xs ++ ys) t))) → onward r (λ n p. onward (numbers-at top (j + k) bytes p) (λ ns q. got (n ∷ ns) q)) ≡ onward (onward r (λ n p. onward (numbers-at top j bytes p) (λ ns q. got (n ∷ ns) q))) (λ xs p. onward (numbers-at top k bytes p) (λ ys q. got (xs ++ ys) q))
   unfolding onward
   by-first j k bad f = refl
   by-first j k (got n p) f = rw (f p) (one-more n k (numbers-at top j bytes p))
 
-  none-before : (r : Read (List ℕ)) → r ≡ onward r (λ ys q. got ys q)
-  unfolding onward
-  none-before bad = refl
-  none-before (got ns p) = refl
-
   numbers-two : (j k at : ℕ) → numbers-at top (j + k) bytes at ≡ onward (numbers-at top j bytes at) (λ xs p. onward (numbers-at top k bytes p) (λ ys q. got (xs ++ ys) q))
   unfolding numbers-at onward
-  numbers-two zero k at = let e : 0 + k ≡ k = omega arith in rw e (none-before (numbers-at top k bytes at))
+  numbers-two zero k at = let e : 0 + k ≡ k = omega arith in rw e (sym (nothing-yet (numbers-at top k bytes at)))
   numbers-two (suc j) k at =
       let e : suc j + k ≡ suc (j + k) = omega arith in
       rw e (by-first j k (number-below top bytes at) (numbers-two j k))
@@ -316,11 +307,14 @@ module _ {bytes : List ℕ} {whole : Read (List ℕ)} {before : List ℕ} {at : 
   abbrev room : ℕ
   room = layout.mapping-width * layout.mappings
 
-  abbrev used : ℕ
-  used = layout.mapping-width * getD (inv .mark ∷ run ++ inv .event) (1 + layout.record-length + layout.event-length) 0
+  abbrev seen : List ℕ
+  seen = inv .mark ∷ run ++ inv .event
 
-  used-is : (used ≡ layout.mapping-width * getD call layout.call-answered 0) × (used ≤ room)
-  used-is = let c = inv .count in let f = inv .few in (omega arith, omega arith)
+  abbrev used : ℕ
+  used = layout.mapping-width * getD seen (1 + layout.record-length + layout.event-length) 0
+
+  used-few : used ≤ room
+  used-few = let c = inv .count in let f = inv .few in omega arith
 
   pub counted-long : length call ≡ layout.call-length
   counted-long =
@@ -328,47 +322,36 @@ module _ {bytes : List ℕ} {whole : Read (List ℕ)} {before : List ℕ} {at : 
       let m = inv .many in
       ap length (inv .is) ∙ length-splice before layout.call-has-record (inv .mark ∷ inv .event) (omega arith) ∙ l
 
-  no-answers : numbers-at (2 ^ 64) used bytes at ≡ bad → whole ≡ bad
-  unfolding onward
-  no-answers e = left-bad (inv .left) (column-read (2 ^ 64) room used bytes at (used-is .1) ∙ rw e)
+  -- up to the answers the array is written
+  ends-there : layout.call-has-record + length (inv .mark ∷ inv .event) ≡ layout.call-mappings
+  ends-there = let m = inv .many in omega arith
 
-  all-answers : {ns : List ℕ} {p : ℕ} → numbers-at (2 ^ 64) used bytes at ≡ got ns p → whole ≡ got (inv .mark ∷ run ++ (inv .event ++ padded room 0 ns)) p
-  unfolding onward
-  all-answers {ns} {p} e =
-      let f : answers .shape (inv .mark ∷ run ++ inv .event) .read bytes at ≡ got (padded room 0 ns) p = column-read (2 ^ 64) room used bytes at (used-is .1) ∙ rw e in
-      rw append-assoc at (left-end (left-more (inv .left) f))
+  none-yet : Zero-from layout.call-mappings call
+  none-yet =
+      let l = inv .long in
+      let i = ends-there in
+      rw (← inv .is, i) at (zero-behind before layout.call-has-record (inv .blank) (inv .mark ∷ inv .event) (omega arith))
 
-  -- in the call's array
-  module _ {ns after : List ℕ} {p : ℕ} (e : numbers-at (2 ^ 64) used bytes at ≡ got ns p) (stored : after ≡ splice call layout.call-mappings ns) where
-    call-stored : after ≡ splice before layout.call-has-record (inv .mark ∷ inv .event ++ padded room 0 ns)
-    call-stored =
-        let u = used-is in
-        let n = numbers-long (2 ^ 64) bytes used at ns p e in
+  module _ {z : Place} {after : List ℕ} (stored : Stored (column (2 ^ 64) room used .read bytes at) call layout.call-mappings after) where
+    by-answers : (r : Read (List ℕ)) → column (2 ^ 64) room used .read bytes at ≡ r → z ≡ place-of r → (z ≡ place-of whole) × Rest-stored whole before after run
+    unfolding place-of
+    by-answers bad e a = let b = left-bad (inv .left) e in (a ∙ bad-place b, bad-rest b)
+    by-answers (got ns p) e a =
+        let more = inv .event ++ ns in
+        let all : whole ≡ got (inv .mark ∷ run ++ more) p = rw append-assoc at (left-end (left-more (inv .left) e)) in
         let l = inv .long in
-        let m = inv .many in
-        let k : length (padded room 0 ns) ≡ room = padded-long room ns (omega arith) in
-        let c = counted-long in
-        let i : layout.call-has-record + length (inv .mark ∷ inv .event) ≡ layout.call-mappings = omega arith in
-        let z : Zero-from layout.call-mappings call = rw (← inv .is, i) at (zero-behind before layout.call-has-record (inv .blank) (inv .mark ∷ inv .event) (omega arith)) in
-        stored ∙ sym (splice-padded call layout.call-mappings z room ns (omega arith) (omega arith)) ∙ ap (λ (xs : List ℕ). splice xs layout.call-mappings (padded room 0 ns)) (inv .is) ∙
-        splice-more before layout.call-has-record (inv .mark ∷ inv .event) (padded room 0 ns) layout.call-mappings (sym i) (omega arith)
-
-    stored-rest : Rest-stored whole before after run
-    stored-rest =
-        let more = inv .event ++ padded room 0 ns in
+        let i = ends-there in
+        let k = column-long (2 ^ 64) room used bytes at used-few ns p e in
         let r = inv .run-long in
         let d : drop (1 + layout.record-length) (inv .mark ∷ run ++ more) ≡ more = drop-at (inv .mark ∷ run) more (1 + layout.record-length) (omega arith) in
         let t : take layout.record-length (run ++ more) ≡ run = take-at run more layout.record-length r in
-        got-rest (all-answers e) (call-stored ∙ ap (λ (l : List ℕ). splice before layout.call-has-record (inv .mark ∷ l)) (sym d)) (sym t)
+        let c : after ≡ splice before layout.call-has-record (inv .mark ∷ more) =
+        stored .is ns p e ∙ ap (λ (xs : List ℕ). splice xs layout.call-mappings ns) (inv .is) ∙ splice-more before layout.call-has-record (inv .mark ∷ inv .event) ns layout.call-mappings (sym i) (omega arith) in
+        (a ∙ got-place all, got-rest all (c ∙ ap (λ (xs : List ℕ). splice before layout.call-has-record (inv .mark ∷ xs)) (sym d)) (sym t))
 
-  module _ {z : Place} {after : List ℕ} {end : ℕ} (ends : end ≡ layout.call-mappings + layout.mapping-width * getD call layout.call-answered 0) (answer : z ≡ place-of (numbers-at (2 ^ 64) (end - layout.call-mappings) bytes at)) (stored : Stored (numbers-at (2 ^ 64) (end - layout.call-mappings) bytes at) call layout.call-mappings after) where
-    many-used : end - layout.call-mappings ≡ used
-    many-used = let u = used-is in omega arith
-
-    by-answers : (r : Read (List ℕ)) → numbers-at (2 ^ 64) used bytes at ≡ r → z ≡ place-of r → (z ≡ place-of whole) × Rest-stored whole before after run
-    unfolding place-of
-    by-answers bad e a = let b = no-answers e in (a ∙ bad-place b, bad-rest b)
-    by-answers (got ns p) e a = (a ∙ got-place (all-answers e), stored-rest e ((rw many-used at stored) .is ns p e))
-
-    pub answers-read : (z ≡ place-of whole) × Rest-stored whole before after run
-    answers-read = by-answers (numbers-at (2 ^ 64) used bytes at) refl (rw many-used at answer)
+  pub answers-read : {z : Place} {after : List ℕ} {end : ℕ} → end ≡ layout.call-mappings + layout.mapping-width * getD call layout.call-answered 0 → z ≡ place-of (numbers-at (2 ^ 64) (end - layout.call-mappings) bytes at) → Stored (numbers-at (2 ^ 64) (end - layout.call-mappings) bytes at) call layout.call-mappings after → (z ≡ place-of whole) × Rest-stored whole before after run
+  answers-read {z} {after} {end} ends answer stored =
+      let c = inv .count in
+      let many : end - layout.call-mappings ≡ used = omega arith in
+      let n = counted-long in
+      by-answers (column-stored (2 ^ 64) room used bytes at used-few (omega arith) none-yet (rw many at stored)) (column (2 ^ 64) room used .read bytes at) refl (column-place (2 ^ 64) room used bytes at used-few (rw many at answer))
