@@ -22,7 +22,7 @@ use Rattle.bytes.specs.SheetLaws.{sheet-exact, sheet-width}
 use Rattle.bytes.specs.Call.{rest, limits, the-sheet, the-rest, call, call-on, sheet-in, without-sheet, run-in, numbers-in}
 use Rattle.bytes.specs.CallStored.{Rest-stored, Call-stored, On-stored}
 use Rattle.bytes.specs.CallLaws.{rest-exact, rest-width}
-use Rattle.bytes.specs.StagesLeft.{read-long, Left, left-start, left-bad, left-more, left-end}
+use Rattle.bytes.specs.StagesLeft.{read-long, same-read, Left, left-start, left-bad, left-more, left-end}
 
 -- THE PARTS of a call without its sheet: behind the limits stand the mark, the run, and what else it has.
 module _ (ls rs : List ℕ) (long : length ls ≡ layout.call-has-record) where
@@ -117,10 +117,7 @@ pub bad-on : {r : Read (List ℕ)} {array given : List ℕ} → r ≡ bad → On
 bad-on e = record { call-is = λ ns next f. not-bad (sym e ∙ f); run-is = λ ns next f. not-bad (sym e ∙ f) }
 
 got-on : {r : Read (List ℕ)} {array given ns : List ℕ} {next : ℕ} → r ≡ got ns next → array ≡ numbers-in ns → given ≡ run-in ns → On-stored r array given
-got-on {r} {array} {given} {ns} {next} e f g = record { call-is = λ ms q h. f ∙ ap numbers-in (same h); run-is = λ ms q h. g ∙ ap run-in (same h) }
-  where
-    same : {ms : List ℕ} {q : ℕ} → r ≡ got ms q → ns ≡ ms
-    same {ms} {q} h = let i : got ns next ≡ got ms q = sym e ∙ h in cc
+got-on e f g = record { call-is = λ ms q h. f ∙ ap numbers-in (same-read e h); run-is = λ ms q h. g ∙ ap run-in (same-read e h) }
 
 module _ {bytes before list : List ℕ} {at : ℕ} (inv : Limited bytes before list at) where
   on-next : Left (the-rest ∷ []) bytes (call-on .read bytes 0) (inv .first) at
@@ -144,15 +141,12 @@ pub bad-call : {r : Read (List ℕ)} {graph array given : List ℕ} → r ≡ ba
 bad-call e = record { sheet-is = λ ns next f. not-bad (sym e ∙ f); call-is = λ ns next f. not-bad (sym e ∙ f); run-is = λ ns next f. not-bad (sym e ∙ f) }
 
 got-call : {r : Read (List ℕ)} {graph array given ns : List ℕ} {next : ℕ} → r ≡ got ns next → graph ≡ sheet-in ns → array ≡ numbers-in (without-sheet ns) → given ≡ run-in (without-sheet ns) → Call-stored r graph array given
-got-call {r} {graph} {array} {given} {ns} {next} e d f g =
+got-call e d f g =
     record {
-      sheet-is = λ ms q h. d ∙ ap sheet-in (same h);
-      call-is = λ ms q h. f ∙ ap (λ (xs : List ℕ). numbers-in (without-sheet xs)) (same h);
-      run-is = λ ms q h. g ∙ ap (λ (xs : List ℕ). run-in (without-sheet xs)) (same h);
+      sheet-is = λ ms q h. d ∙ ap sheet-in (same-read e h);
+      call-is = λ ms q h. f ∙ ap (λ (xs : List ℕ). numbers-in (without-sheet xs)) (same-read e h);
+      run-is = λ ms q h. g ∙ ap (λ (xs : List ℕ). run-in (without-sheet xs)) (same-read e h);
     }
-  where
-    same : {ms : List ℕ} {q : ℕ} → r ≡ got ms q → ns ≡ ms
-    same {ms} {q} h = let i : got ns next ≡ got ms q = sym e ∙ h in cc
 
 module _ {bytes before list : List ℕ} {at : ℕ} (inv : Limited bytes before list at) where
   sheet-next : Left (the-sheet ∷ the-rest ∷ []) bytes (call .read bytes 0) (inv .first) at

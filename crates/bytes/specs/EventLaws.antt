@@ -16,7 +16,7 @@ pub copy-start : {event : List ℕ} → Copied event 0 (replicate layout.call-le
 copy-start = record { is = write-start (λ _. refl) }
 
 module _ {event : List ℕ} {i : ℕ} {call : List ℕ} (inv : Copied event i call) where
-  pub copy-long : length call ≡ layout.call-length
+  copy-long : length call ≡ layout.call-length
   copy-long = inv .is .long ∙ length-replicate {A = ℕ} layout.call-length 0
 
   module _ (many : length event ≡ layout.event-length) where

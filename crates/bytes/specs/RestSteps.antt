@@ -29,7 +29,7 @@ use Rattle.bytes.specs.Run.{run}
 use Rattle.bytes.specs.Call.{mark, given-shape, marked, given, event-numbers, answered, answers, rest}
 use Rattle.bytes.specs.CallStored.{Rest-stored}
 use Rattle.bytes.specs.CallLaws.{given-exact, given-width}
-use Rattle.bytes.specs.StagesLeft.{read-long, Left, left-start, left-bad, left-more, left-end}
+use Rattle.bytes.specs.StagesLeft.{read-long, same-read, Left, left-start, left-bad, left-more, left-end}
 
 -- NUMBERS in two parts.
 module _ (top : ℕ) (bytes : List ℕ) where
@@ -291,16 +291,10 @@ pub bad-rest : {r : Read (List ℕ)} {before after given : List ℕ} → r ≡ b
 bad-rest e = record { call = λ ns next f. not-bad (sym e ∙ f); run = λ ns next f. not-bad (sym e ∙ f) }
 
 got-rest : {r : Read (List ℕ)} {before after given ns : List ℕ} {next : ℕ} → r ≡ got ns next → after ≡ splice before layout.call-has-record (take 1 ns ++ drop (1 + layout.record-length) ns) → given ≡ take layout.record-length (drop 1 ns) → Rest-stored r before after given
-got-rest {r} {before} {after} {given} {ns} {next} e f g =
+got-rest {r} {before} e f g =
     record {
-      call = λ ms q h.
-          let i : got ns next ≡ got ms q = sym e ∙ h in
-          let x : ns ≡ ms = cc in
-          rw (← x) f;
-      run = λ ms q h.
-          let i : got ns next ≡ got ms q = sym e ∙ h in
-          let x : ns ≡ ms = cc in
-          rw (← x) g;
+      call = λ ms q h. f ∙ ap (λ (xs : List ℕ). splice before layout.call-has-record (take 1 xs ++ drop (1 + layout.record-length) xs)) (same-read e h);
+      run = λ ms q h. g ∙ ap (λ (xs : List ℕ). take layout.record-length (drop 1 xs)) (same-read e h);
     }
 
 module _ {bytes : List ℕ} {whole : Read (List ℕ)} {before : List ℕ} {at : ℕ} {call run : List ℕ} (inv : Counted bytes whole before at call run) where

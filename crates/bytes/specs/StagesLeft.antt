@@ -13,6 +13,11 @@ use Rattle.codec.specs.ShapesLoops.{nothing-yet, behind}
 pub read-long : {shape : Shape} {bytes ns : List ℕ} {at next : ℕ} → Exact shape → Bytes bytes → shape .read bytes at ≡ got ns next → length ns ≡ shape .width
 read-long {shape} {bytes} {ns} {at} {next} exact good e = exact .long ns (exact .only bytes ns at next good e .tidy)
 
+-- A read gives one list.
+pub same-read : {r : Read (List ℕ)} {ns ms : List ℕ} {p q : ℕ} → r ≡ got ns p → r ≡ got ms q → ns ≡ ms
+same-read {r} {ns} {ms} {p} {q} e f = let g : got ns p ≡ got ms q = sym e ∙ f in cc
+
+-- WHAT IS LEFT: the stages, by the numbers that were seen, and the whole is those and theirs.
 pub record Left (stages : List Stage) (bytes : List ℕ) (whole : Read (List ℕ)) (seen : List ℕ) (at : ℕ) : Type 0 where
   pub is : onward (staged stages seen .read bytes at) (λ ns p. got (seen ++ ns) p) ≡ whole
 
