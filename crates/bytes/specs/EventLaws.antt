@@ -1,33 +1,58 @@
--- The call that has only an event.
-use mathlib.Core.Path.{_≡_, refl, ap, _∙_}
+-- An event's numbers in the call that has nothing else.
+use mathlib.Core.Path.{_≡_, refl, sym, ap, _∙_}
+use mathlib.Core.Bool.{Bool, true, false, _&&_}
 use mathlib.Core.List.{List, [], _∷_, _++_}
-use Prim.Native.Nat.{ℕ, _+_, _≤_, _<_}
-use native.Mathlib.Omega.{arith}
-use lib.ListN.{length, getD, set, take, drop, replicate, length-replicate}
-use Rattle.laws.specs.Splice.{splice, splice-one, flat-ones, Written, write-start, write-next, write-end}
+use Prim.Native.Nat.{ℕ, _^_}
+use lib.Dec.{ltb}
+use lib.ListN.{length, getD}
+use Rattle.laws.specs.Bool.{_and_}
+use Rattle.laws.specs.Every.{every}
+use Rattle.laws.specs.Rows.{rows, rows-all}
 use Rattle.host.specs.Layout as layout
-use Rattle.bytes.specs.Event.{event-call}
+use Rattle.host.specs.Read.{Field, number, name, code, mark, field-fits, all-fit, event-fields, call-fits}
+use Rattle.host.specs.ReadLaws.{gathered, each-fits}
+use Rattle.bytes.specs.Event.{event-call, event-fits}
 
--- A LOOP OVER THE EVENT'S NUMBERS: those before i stand in the call, and all else is zero.
-pub record Copied (event : List ℕ) (i : ℕ) (call : List ℕ) : Type 0 where
-  pub is : Written (λ (n : ℕ). n ∷ []) 1 event layout.call-sequence i (replicate layout.call-length 0) call
+and-true : (b : Bool) → (b && true) ≡ b
+and-true true = refl
+and-true false = refl
 
-pub copy-start : {event : List ℕ} → Copied event 0 (replicate layout.call-length 0)
-copy-start = record { is = write-start (λ _. refl) }
+-- The fields of an event but for the count of answers, which is behind it.
+abbrev own-fields : List Field
+own-fields =
+    number layout.call-kind
+    ∷ number layout.call-input
+    ∷ name layout.call-signal
+    ∷ name layout.call-outcome
+    ∷ number layout.call-data
+    ∷ name layout.call-node
+    ∷ number layout.call-visit
+    ∷ number layout.call-attempt
+    ∷ number layout.call-status
+    ∷ number layout.call-output
+    ∷ mark layout.call-has-error
+    ∷ code layout.call-error-code
+    ∷ number layout.call-error-detail
+    ∷ mark layout.call-retryable
+    ∷ number layout.call-resolution
+    ∷ []
 
-module _ {event : List ℕ} {i : ℕ} {call : List ℕ} (inv : Copied event i call) where
-  copy-long : length call ≡ layout.call-length
-  copy-long = inv .is .long ∙ length-replicate {A = ℕ} layout.call-length 0
+module _ (ns : List ℕ) (long : length ns ≡ layout.event-length) where
+  abbrev each : List ℕ
+  each = rows (λ i. getD ns i 0) 0 layout.event-length
 
-  module _ (many : length event ≡ layout.event-length) where
-    pub copy-more : i < layout.event-length → Copied event (i + 1) (set call (layout.call-sequence + i) (getD event i 0))
-    copy-more h =
-        let n = copy-long in
-        let m = length-replicate {A = ℕ} layout.call-length 0 in
-        record { is = write-next (inv .is) 0 {k = layout.call-sequence + i} (omega arith) (omega arith) (omega arith) (splice-one call (layout.call-sequence + i) (getD event i 0) (omega arith)) }
+  unfoldable pub tested : Bool
+  tested = gathered (field-fits (event-call each)) (field-fits (event-call each) (number layout.call-event-id)) own-fields
 
-    pub copy-end : layout.event-length ≤ i → call ≡ event-call event
-    unfolding event-call splice
-    copy-end h =
-        let e : call ≡ splice (replicate layout.call-length 0) layout.call-sequence event = write-end (inv .is) (omega arith) ∙ ap (splice (replicate layout.call-length 0) layout.call-sequence) (flat-ones event) in
-        e ∙ ap (λ k. take layout.call-sequence (replicate layout.call-length 0) ++ event ++ drop (layout.call-sequence + k) (replicate layout.call-length 0)) many
+  with-answered : (tested && true) ≡ all-fit (event-call each) event-fields
+  unfolding tested event-call rows
+  with-answered = each-fits (event-call each) (number layout.call-event-id) (own-fields ++ (number layout.call-answered ∷ []))
+
+  others : ((all-fit (event-call each) event-fields && true) && true) ≡ event-fits each
+  unfolding call-fits all-fit every event-call rows _and_
+  others = refl
+
+  pub event-tested : tested ≡ event-fits ns
+  event-tested =
+      sym (and-true tested) ∙ with-answered ∙ sym (and-true (all-fit (event-call each) event-fields)) ∙ sym (and-true (all-fit (event-call each) event-fields && true)) ∙ others
+      ∙ ap event-fits (rows-all 0 ns layout.event-length long)

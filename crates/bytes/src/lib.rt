@@ -9,7 +9,7 @@ use crate::answer::answer_size;
 use crate::answer::write_answer;
 use crate::call::read_call;
 use crate::call::read_rest;
-use crate::event::event_call;
+use crate::event::event_fits;
 use crate::run::read_run;
 use crate::run::run_size;
 use crate::run::run_tidy;
@@ -24,15 +24,13 @@ use codec::numbers::read_longs;
 use codec::numbers::write_longs;
 use host::kuxhoveza_transition;
 use host::layout;
-use host::read::call_fits;
 use host::read::run_fits;
 use workflow::layout::NUMBERS;
 ghost use mathlib.Core.Path.{_≡_};
-ghost use Prim.Native.Nat.{_+_, _≤_};
-ghost use lib.ListN.{length, getD, take, drop};
+ghost use Prim.Native.Nat.{_≤_};
+ghost use lib.ListN.{length};
 ghost use Rattle.laws.specs.Splice.{splice};
 ghost use Rattle.workflow.specs.Layout.{numbers as sheet-length};
-ghost use Rattle.codec.specs.Numbers.{part};
 ghost use Rattle.bytes.specs.Boundary.{no-item, packed, returned, left, write-sheet, write-run, write-event, read-sheet, read-run, read-event, said, told, decide, decide-on, is-said, said-in, Of-64-bits, call-bytes, call-bytes-on};
 ghost use Rattle.bytes.specs.BoundaryLaws.{ends-at};
 
@@ -106,12 +104,12 @@ pub extern "C" fn kuxhoveza_write_sheet(sheet: &[u32], out: &mut [u8]) -> u64
     done(size)
 }
 
-fn copy_numbers(out: &mut [u32], xs: &[u32; NUMBERS])
-    requires { ⌜ length (now out) ≡ sheet-length ⌝ }
+fn copy_numbers(out: &mut [u32], xs: &[u32])
+    requires { ⌜ length (now xs) ≤ length (now out) ⌝ }
     ensures { λ _. ⌜ now (out .exit) ≡ splice (now (out .entry)) 0 (now (xs .entry)) ⌝ }
 {
     let mut i: usize = 0;
-    while i < NUMBERS {
+    while i < xs.len() {
         out[i] = xs[i];
         i += 1;
     }
@@ -158,13 +156,13 @@ pub extern "C" fn kuxhoveza_write_run(run: &[u64], out: &mut [u8]) -> u64
     done(size)
 }
 
-fn copy_longs(out: &mut [u64], xs: &[u64], first: usize, k: usize)
-    requires { ⌜ (k ≤ length (now out)) × (first + k ≤ length (now xs)) ⌝ }
-    ensures { λ _. ⌜ now (out .exit) ≡ splice (now (out .entry)) 0 (part (now (xs .entry)) first (first + k)) ⌝ }
+fn copy_longs(out: &mut [u64], xs: &[u64])
+    requires { ⌜ length (now xs) ≤ length (now out) ⌝ }
+    ensures { λ _. ⌜ now (out .exit) ≡ splice (now (out .entry)) 0 (now (xs .entry)) ⌝ }
 {
     let mut i: usize = 0;
-    while i < k {
-        out[i] = xs[first + i];
+    while i < xs.len() {
+        out[i] = xs[i];
         i += 1;
     }
 }
@@ -185,7 +183,7 @@ pub extern "C" fn kuxhoveza_read_run(bytes: &[u8], run: &mut [u64]) -> u64
     if !run_fits(&numbers) {
         return refused(BAD_BYTES);
     }
-    copy_longs(run, &numbers, 0, layout::RECORD);
+    copy_longs(run, &numbers);
     done(0)
 }
 
@@ -199,8 +197,7 @@ pub extern "C" fn kuxhoveza_write_event(event: &[u64], out: &mut [u8]) -> u64
     if event.len() != layout::EVENT {
         return receipt(layout::BAD_CALL_LENGTH);
     }
-    let call = event_call(event);
-    if !call_fits(&call) {
+    if !event_fits(event) {
         return receipt(layout::BAD_CALL);
     }
     let size = longs_size(event, 0, layout::EVENT);
@@ -219,21 +216,15 @@ pub extern "C" fn kuxhoveza_read_event(bytes: &[u8], event: &mut [u64]) -> u64
     if event.len() != layout::EVENT {
         return receipt(layout::BAD_CALL_LENGTH);
     }
-    let mut call = [0u64; layout::CALL];
-    let place = read_longs(
-        bytes,
-        0,
-        &mut call,
-        layout::CALL_SEQUENCE,
-        layout::CALL_ANSWERED,
-    );
+    let mut numbers = [0u64; layout::EVENT];
+    let place = read_longs(bytes, 0, &mut numbers, 0, layout::EVENT);
     if !ends(place, bytes) {
         return refused(BAD_BYTES);
     }
-    if !call_fits(&call) {
+    if !event_fits(&numbers) {
         return refused(BAD_BYTES);
     }
-    copy_longs(event, &call, layout::CALL_SEQUENCE, layout::EVENT);
+    copy_longs(event, &numbers);
     done(0)
 }
 
