@@ -132,13 +132,13 @@ call-bytes bytes room = told room (decide bytes)
 unfoldable pub call-bytes-on : (sheet : List ℕ) (size : ℕ) (bytes : List ℕ) (room : ℕ) → Outcome
 call-bytes-on sheet size bytes room = if not (eqb size sheet-length) then refused layout.bad-sheet-length 0 else told room (decide-on sheet bytes)
 
--- The numbers stand at the beginning of a lent array, where there are any.
+-- The numbers fill a lent array, where there are any.
 unfoldable pub is-said : Decided → Bool
 is-said (said ns) = true
 is-said unread = false
 
 unfoldable pub said-in : Decided → List ℕ → List ℕ
-said-in (said ns) array = splice array 0 ns
+said-in (said ns) array = ns
 said-in unread array = array
 
 -- The numbers of an answer have 64 bits, so that what is written of them reads back.

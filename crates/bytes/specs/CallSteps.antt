@@ -1,11 +1,11 @@
 -- A call read step by step, with its sheet and without: into the arrays of the sheet, the call and the run.
 use mathlib.Core.Path.{_≡_, refl, sym, ap, _∙_}
 use mathlib.Core.List.{List, [], _∷_, _++_, append-assoc}
-use Prim.Native.Nat.{ℕ, _+_, _-_, _^_, _≤_, _<_}
+use Prim.Native.Nat.{ℕ, _+_, _-_, _^_}
 use native.Mathlib.Omega.{arith}
 use lib.ListN.{length, take, drop, replicate, length-append, length-drop, length-replicate}
 use lib.Seq.{length-take-le, take-at, drop-at, take-append-add, drop-append-add}
-use Rattle.laws.specs.Splice.{splice, splice-all, splice-more, length-splice}
+use Rattle.laws.specs.Splice.{splice, splice-all, splice-more}
 use Rattle.workflow.specs.Layout.{numbers as sheet-length}
 use Rattle.host.specs.Layout as layout
 use Rattle.codec.specs.declared.numbers.Place.{Place}
@@ -15,14 +15,14 @@ use Rattle.codec.specs.Stages.{numbers}
 use Rattle.codec.specs.Stored.{place-of, Stored, Zero-from}
 use Rattle.codec.specs.Exact.{Bytes, not-bad}
 use Rattle.codec.specs.NumbersLaws.{numbers-long}
-use Rattle.codec.specs.StoredLaws.{Got, at-got, at-bad, bad-place, got-place}
+use Rattle.codec.specs.StoredLaws.{at-got, at-bad, bad-place, got-place}
 use Rattle.codec.specs.Zeros.{zero-behind}
 use Rattle.bytes.specs.Sheet.{sheet}
 use Rattle.bytes.specs.SheetLaws.{sheet-exact, sheet-width}
 use Rattle.bytes.specs.Call.{rest, limits, the-sheet, the-rest, call, call-on, sheet-in, without-sheet, run-in, numbers-in}
 use Rattle.bytes.specs.CallStored.{Rest-stored, Call-stored, On-stored}
 use Rattle.bytes.specs.CallLaws.{rest-exact, rest-width}
-use Rattle.bytes.specs.StagesLeft.{read-long, Left, left-start, left-bad, left-more, left-end}
+use Rattle.bytes.specs.StagesLeft.{read-long, same-read, Left, left-start, left-bad, left-more, left-end}
 
 -- THE PARTS of a call without its sheet: behind the limits stand the mark, the run, and what else it has.
 module _ (ls rs : List ℕ) (long : length ls ≡ layout.call-has-record) where
@@ -75,17 +75,17 @@ module _ (bytes : List ℕ) {z : Place} (answer : z ≡ place-of (numbers-at (2 
 
 -- What was read of them, and where it stands.
 pub record Limited (bytes before list : List ℕ) (at : ℕ) : Type 0 where
-  pub numbers-are : List ℕ
-  pub read : numbers-at (2 ^ 64) layout.call-has-record bytes 0 ≡ got numbers-are at
-  pub is : list ≡ splice before 0 numbers-are
-  pub many : length numbers-are ≡ layout.call-has-record
+  pub first : List ℕ
+  pub read : numbers-at (2 ^ 64) layout.call-has-record bytes 0 ≡ got first at
+  pub is : list ≡ splice before 0 first
+  pub many : length first ≡ layout.call-has-record
   pub blank : before ≡ replicate layout.call-length 0
   pub good : Bytes bytes
 
 pub limited : {bytes : List ℕ} {z : Place} {before list : List ℕ} {p : ℕ} → z ≡ place-of (numbers-at (2 ^ 64) layout.call-has-record bytes 0) → z ≡ Place.At p → Stored (numbers-at (2 ^ 64) layout.call-has-record bytes 0) before 0 list → before ≡ replicate layout.call-length 0 → Bytes bytes → Limited bytes before list p
 limited {bytes} {z} {before} {list} {p} answer e stored blank good =
     let g = at-got answer e in
-    record { numbers-are = g .value; read = g .is; is = stored .is (g .value) p (g .is); many = numbers-long (2 ^ 64) bytes layout.call-has-record 0 (g .value) p (g .is); blank = blank; good = good }
+    record { first = g .value; read = g .is; is = stored .is (g .value) p (g .is); many = numbers-long (2 ^ 64) bytes layout.call-has-record 0 (g .value) p (g .is); blank = blank; good = good }
 
 module _ {bytes before list : List ℕ} {at : ℕ} (inv : Limited bytes before list at) where
   before-long : length before ≡ layout.call-length
@@ -96,13 +96,13 @@ module _ {bytes before list : List ℕ} {at : ℕ} (inv : Limited bytes before l
       let n = before-long in
       let m = inv .many in
       let e : length before - 0 ≡ layout.call-length = omega arith in
-      let i : 0 + length (inv .numbers-are) ≡ layout.call-has-record = omega arith in
-      rw (← inv .is, i) at (zero-behind before 0 (rw e (inv .blank)) (inv .numbers-are) (omega arith))
+      let i : 0 + length (inv .first) ≡ layout.call-has-record = omega arith in
+      rw (← inv .is, i) at (zero-behind before 0 (rw e (inv .blank)) (inv .first) (omega arith))
 
   -- with what is read behind the sheet
-  call-array : (rs : List ℕ) {after : List ℕ} → length rs ≡ the-rest .room → after ≡ splice list layout.call-has-record (take 1 rs ++ drop (1 + layout.record-length) rs) → after ≡ numbers-in (inv .numbers-are ++ rs)
+  call-array : (rs : List ℕ) {after : List ℕ} → length rs ≡ the-rest .room → after ≡ splice list layout.call-has-record (take 1 rs ++ drop (1 + layout.record-length) rs) → after ≡ numbers-in (inv .first ++ rs)
   call-array rs long stored =
-      let ls = inv .numbers-are in
+      let ls = inv .first in
       let more = take 1 rs ++ drop (1 + layout.record-length) rs in
       let n = before-long in
       let m = inv .many in
@@ -117,13 +117,10 @@ pub bad-on : {r : Read (List ℕ)} {array given : List ℕ} → r ≡ bad → On
 bad-on e = record { call-is = λ ns next f. not-bad (sym e ∙ f); run-is = λ ns next f. not-bad (sym e ∙ f) }
 
 got-on : {r : Read (List ℕ)} {array given ns : List ℕ} {next : ℕ} → r ≡ got ns next → array ≡ numbers-in ns → given ≡ run-in ns → On-stored r array given
-got-on {r} {array} {given} {ns} {next} e f g = record { call-is = λ ms q h. f ∙ ap numbers-in (same h); run-is = λ ms q h. g ∙ ap run-in (same h) }
-  where
-    same : {ms : List ℕ} {q : ℕ} → r ≡ got ms q → ns ≡ ms
-    same {ms} {q} h = let i : got ns next ≡ got ms q = sym e ∙ h in cc
+got-on e f g = record { call-is = λ ms q h. f ∙ ap numbers-in (same-read e h); run-is = λ ms q h. g ∙ ap run-in (same-read e h) }
 
 module _ {bytes before list : List ℕ} {at : ℕ} (inv : Limited bytes before list at) where
-  on-next : Left (the-rest ∷ []) bytes (call-on .read bytes 0) (inv .numbers-are) at
+  on-next : Left (the-rest ∷ []) bytes (call-on .read bytes 0) (inv .first) at
   unfolding numbers
   on-next = left-more (on-start bytes) (inv .read)
 
@@ -134,7 +131,7 @@ module _ {bytes before list : List ℕ} {at : ℕ} (inv : Limited bytes before l
     on-by-rest (got rs p) e a =
         let all = left-end (left-more on-next e) in
         let n : length rs ≡ the-rest .room = read-long rest-exact (inv .good) e ∙ rest-width in
-        (a ∙ got-place all, got-on all (call-array inv rs n (stored .call rs p e)) (stored .run rs p e ∙ sym (run-of (inv .numbers-are) rs (inv .many))))
+        (a ∙ got-place all, got-on all (call-array inv rs n (stored .call rs p e)) (stored .run rs p e ∙ sym (run-of (inv .first) rs (inv .many))))
 
     pub on-read : z ≡ place-of (rest .read bytes at) → (z ≡ place-of (call-on .read bytes 0)) × On-stored (call-on .read bytes 0) after given
     on-read a = on-by-rest (rest .read bytes at) refl a
@@ -144,18 +141,15 @@ pub bad-call : {r : Read (List ℕ)} {graph array given : List ℕ} → r ≡ ba
 bad-call e = record { sheet-is = λ ns next f. not-bad (sym e ∙ f); call-is = λ ns next f. not-bad (sym e ∙ f); run-is = λ ns next f. not-bad (sym e ∙ f) }
 
 got-call : {r : Read (List ℕ)} {graph array given ns : List ℕ} {next : ℕ} → r ≡ got ns next → graph ≡ sheet-in ns → array ≡ numbers-in (without-sheet ns) → given ≡ run-in (without-sheet ns) → Call-stored r graph array given
-got-call {r} {graph} {array} {given} {ns} {next} e d f g =
+got-call e d f g =
     record {
-      sheet-is = λ ms q h. d ∙ ap sheet-in (same h);
-      call-is = λ ms q h. f ∙ ap (λ (xs : List ℕ). numbers-in (without-sheet xs)) (same h);
-      run-is = λ ms q h. g ∙ ap (λ (xs : List ℕ). run-in (without-sheet xs)) (same h);
+      sheet-is = λ ms q h. d ∙ ap sheet-in (same-read e h);
+      call-is = λ ms q h. f ∙ ap (λ (xs : List ℕ). numbers-in (without-sheet xs)) (same-read e h);
+      run-is = λ ms q h. g ∙ ap (λ (xs : List ℕ). run-in (without-sheet xs)) (same-read e h);
     }
-  where
-    same : {ms : List ℕ} {q : ℕ} → r ≡ got ms q → ns ≡ ms
-    same {ms} {q} h = let i : got ns next ≡ got ms q = sym e ∙ h in cc
 
 module _ {bytes before list : List ℕ} {at : ℕ} (inv : Limited bytes before list at) where
-  sheet-next : Left (the-sheet ∷ the-rest ∷ []) bytes (call .read bytes 0) (inv .numbers-are) at
+  sheet-next : Left (the-sheet ∷ the-rest ∷ []) bytes (call .read bytes 0) (inv .first) at
   unfolding numbers
   sheet-next = left-more (call-start bytes) (inv .read)
 
@@ -174,7 +168,7 @@ module _ {bytes before list : List ℕ} {at : ℕ} (inv : Limited bytes before l
           let f : graph ≡ g .value = graphed .is (g .value) p (g .is) ∙ splice-all zeros (g .value) (omega arith) in
           (rw f (g .is), rw f (omega arith))
 
-      rest-next : Left (the-rest ∷ []) bytes (call .read bytes 0) (inv .numbers-are ++ graph) p
+      rest-next : Left (the-rest ∷ []) bytes (call .read bytes 0) (inv .first ++ graph) p
       rest-next = left-more sheet-next (graph-read .0)
 
       module _ {z : Place} {after given : List ℕ} (stored : Rest-stored (rest .read bytes p) list after given) where
@@ -182,7 +176,7 @@ module _ {bytes before list : List ℕ} {at : ℕ} (inv : Limited bytes before l
         unfolding place-of
         by-rest bad e a = let b = left-bad rest-next e in (a ∙ bad-place b, bad-call b)
         by-rest (got rs q) e a =
-            let ls = inv .numbers-are in
+            let ls = inv .first in
             let all = left-end (left-more rest-next e) in
             let n : length rs ≡ the-rest .room = read-long rest-exact (inv .good) e ∙ rest-width in
             let w = without-of ls rs (inv .many) graph (graph-read .1) in (

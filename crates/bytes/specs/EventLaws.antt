@@ -4,12 +4,12 @@ use mathlib.Core.Bool.{Bool, true, false, _&&_}
 use mathlib.Core.List.{List, [], _∷_, _++_}
 use Prim.Native.Nat.{ℕ, _^_}
 use lib.Dec.{ltb}
-use lib.ListN.{length, getD}
+use lib.ListN.{length, getD, take, drop}
 use Rattle.laws.specs.Bool.{_and_}
 use Rattle.laws.specs.Every.{every}
 use Rattle.laws.specs.Rows.{rows, rows-all}
 use Rattle.host.specs.Layout as layout
-use Rattle.host.specs.Read.{Field, number, name, code, mark, field-fits, all-fit, event-fields, call-fits}
+use Rattle.host.specs.Read.{Field, number, field-fits, all-fit, event-fields, call-fits}
 use Rattle.host.specs.ReadLaws.{gathered, each-fits}
 use Rattle.bytes.specs.Event.{event-call, event-fits}
 
@@ -17,25 +17,9 @@ and-true : (b : Bool) → (b && true) ≡ b
 and-true true = refl
 and-true false = refl
 
--- The fields of an event but for the count of answers, which is behind it.
+-- Its fields behind the first, but for the count of answers, which stands behind it.
 abbrev own-fields : List Field
-own-fields =
-    number layout.call-kind
-    ∷ number layout.call-input
-    ∷ name layout.call-signal
-    ∷ name layout.call-outcome
-    ∷ number layout.call-data
-    ∷ name layout.call-node
-    ∷ number layout.call-visit
-    ∷ number layout.call-attempt
-    ∷ number layout.call-status
-    ∷ number layout.call-output
-    ∷ mark layout.call-has-error
-    ∷ code layout.call-error-code
-    ∷ number layout.call-error-detail
-    ∷ mark layout.call-retryable
-    ∷ number layout.call-resolution
-    ∷ []
+own-fields = take 15 (drop 1 event-fields)
 
 module _ (ns : List ℕ) (long : length ns ≡ layout.event-length) where
   abbrev each : List ℕ

@@ -17,3 +17,4 @@ pub mod RestSteps
 pub mod CallSteps
 pub mod EventLaws
 pub mod BoundaryLaws
+pub mod DecideLaws

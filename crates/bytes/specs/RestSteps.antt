@@ -4,101 +4,92 @@ use mathlib.Core.Bool.{Bool, true, false}
 use mathlib.Core.List.{List, [], _∷_, _++_, append-assoc}
 use Prim.Native.Nat.{ℕ, zero, suc, _+_, _*_, _-_, _^_, _≤_, _<_}
 use native.Mathlib.Omega.{arith}
-use lib.Dec.{ltb, eqb}
+use lib.Dec.{eqb}
 use lib.ListN.{length, getD, take, drop, replicate, length-append, length-replicate}
 use lib.Seq.{take-at, drop-at, getD-append-add}
-use borrow.Author.Tests.{ltb-false, lt-ltb, le-ltb}
-use Rattle.laws.specs.Bool.{if_then_else_, split, if-true, if-false}
+use Rattle.laws.specs.Bool.{if_then_else_, split}
 use Rattle.laws.specs.Splice.{splice, splice-all, splice-more, length-splice}
 use Rattle.laws.specs.Listing.{padded}
 use Rattle.host.specs.Layout as layout
 use Rattle.codec.specs.declared.numbers.Place.{Place}
-use Rattle.codec.specs.Read.{Read, got, bad, onward, tested}
+use Rattle.codec.specs.Read.{Read, got, bad, onward}
 use Rattle.codec.specs.Leb.{number-at}
 use Rattle.codec.specs.Numbers.{number-below, numbers-at}
 use Rattle.codec.specs.Stages.{numbers, column, Stage}
 use Rattle.codec.specs.Stored.{place-of, Stored, Zero-from}
 use Rattle.codec.specs.Exact.{Bytes, not-bad}
 use Rattle.codec.specs.ReadLaws.{both-read}
-use Rattle.codec.specs.NumbersLaws.{numbers-long}
+use Rattle.codec.specs.NumbersLaws.{below-got, below-over, below-bad, below-any, numbers-long}
 use Rattle.codec.specs.StoredLaws.{at-got, at-bad, bad-place, got-place, got-stored}
-use Rattle.codec.specs.ShapesLoops.{getD-splice}
+use Rattle.codec.specs.ShapesLoops.{nothing-yet, getD-splice, behind}
 use Rattle.codec.specs.ColumnsLaws.{column-read}
-use Rattle.codec.specs.Zeros.{padded-long, zero-behind, splice-padded}
+use Rattle.codec.specs.ColumnsLoops.{column-place, column-long, column-stored}
+use Rattle.codec.specs.Zeros.{zero-behind}
 use Rattle.bytes.specs.Run.{run}
 use Rattle.bytes.specs.Call.{mark, given-shape, marked, given, event-numbers, answered, answers, rest}
 use Rattle.bytes.specs.CallStored.{Rest-stored}
 use Rattle.bytes.specs.CallLaws.{given-exact, given-width}
-use Rattle.bytes.specs.StagesLeft.{read-long, Left, left-start, left-bad, left-more, left-end}
+use Rattle.bytes.specs.StagesLeft.{read-long, same-read, Left, left-start, left-bad, left-more, left-end}
 
 -- NUMBERS in two parts.
 module _ (top : ℕ) (bytes : List ℕ) where
-  with-more : (n : ℕ) (xs : List ℕ) (r : Read (List ℕ)) → onward (onward r (λ ys q. got (xs ++ ys) q)) (λ ns q. got (n ∷ ns) q) ≡ onward r (λ ys q. got (n ∷ xs ++ ys) q)
-  unfolding onward
-  with-more n xs bad = refl
-  with-more n xs (got ys q) = refl
-
   one-more : (n k : ℕ) (r : Read (List ℕ)) → onward (onward r (λ xs p. onward (numbers-at top k bytes p) (λ ys q. got (xs ++ ys) q))) (λ ns q. got (n ∷ ns) q) ≡ onward (onward r (λ xs p. got (n ∷ xs) p)) (λ xs p. onward (numbers-at top k bytes p) (λ ys q. got (xs ++ ys) q))
   unfolding onward
   one-more n k bad = refl
-  one-more n k (got xs p) = with-more n xs (numbers-at top k bytes p)
+  one-more n k (got xs p) = sym (behind (n ∷ []) xs (numbers-at top k bytes p))
 
   by-first : (j k : ℕ) (r : Read ℕ) → ((p : ℕ) → numbers-at top (j + k) bytes p ≡ onward (numbers-at top j bytes p) (λ xs q. onward (numbers-at top k bytes q) (λ ys t. got (xs ++ ys) t))) → onward r (λ n p. onward (numbers-at top (j + k) bytes p) (λ ns q. got (n ∷ ns) q)) ≡ onward (onward r (λ n p. onward (numbers-at top j bytes p) (λ ns q. got (n ∷ ns) q))) (λ xs p. onward (numbers-at top k bytes p) (λ ys q. got (xs ++ ys) q))
   unfolding onward
   by-first j k bad f = refl
   by-first j k (got n p) f = rw (f p) (one-more n k (numbers-at top j bytes p))
 
-  none-before : (r : Read (List ℕ)) → r ≡ onward r (λ ys q. got ys q)
-  unfolding onward
-  none-before bad = refl
-  none-before (got ns p) = refl
-
   numbers-two : (j k at : ℕ) → numbers-at top (j + k) bytes at ≡ onward (numbers-at top j bytes at) (λ xs p. onward (numbers-at top k bytes p) (λ ys q. got (xs ++ ys) q))
   unfolding numbers-at onward
-  numbers-two zero k at = let e : 0 + k ≡ k = omega arith in rw e (none-before (numbers-at top k bytes at))
+  numbers-two zero k at = let e : 0 + k ≡ k = omega arith in rw e (sym (nothing-yet (numbers-at top k bytes at)))
   numbers-two (suc j) k at =
       let e : suc j + k ≡ suc (j + k) = omega arith in
       rw e (by-first j k (number-below top bytes at) (numbers-two j k))
 
 -- ONE NUMBER, tested after it was read.
-module _ (top : ℕ) (low : top ≤ 2 ^ 64) (bytes : List ℕ) (at : ℕ) where
-  abbrev one : (top : ℕ) → Read ℕ → Read (List ℕ)
-  one most r = onward (tested (λ n. ltb n most) r) (λ n p. onward (got [] p) (λ ns q. got (n ∷ ns) q))
+module _ (bytes : List ℕ) (at : ℕ) where
+  abbrev just : Read ℕ → Read (List ℕ)
+  just r = onward r (λ n p. onward (got [] p) (λ ns q. got (n ∷ ns) q))
 
-  bad-one : (r : Read ℕ) → one (2 ^ 64) r ≡ bad → one top r ≡ bad
-  unfolding tested onward if_then_else_
-  bad-one bad e = refl
-  bad-one (got n p) e = split (ltb n (2 ^ 64)) (λ t. not-bad (sym (rw t at e))) (λ t. let h = ltb-false n (2 ^ 64) t in rw (le-ltb n top (omega arith)))
+  any-number : numbers-at (2 ^ 64) 1 bytes at ≡ just (number-at bytes at)
+  unfolding numbers-at
+  any-number = rw (below-any bytes at)
 
-  got-one : (r : Read ℕ) {ns : List ℕ} {p : ℕ} → one (2 ^ 64) r ≡ got ns p → one top r ≡ (if ltb (getD ns 0 0) top then got ns p else bad)
-  unfolding tested onward if_then_else_
-  got-one bad e = not-bad e
-  got-one (got n q) {ns} {p} e =
-      split (ltb n (2 ^ 64))
-      (λ t.
-      let f : got (n ∷ []) q ≡ got ns p = rw t at e in
+  no-number : (r : Read ℕ) → just r ≡ bad → r ≡ bad
+  unfolding onward
+  no-number bad e = refl
+  no-number (got n p) e = not-bad (sym e)
+
+  the-number : (r : Read ℕ) {ns : List ℕ} {p : ℕ} → just r ≡ got ns p → (r ≡ got (getD ns 0 0) p) × (ns ≡ getD ns 0 0 ∷ [])
+  unfolding onward
+  the-number bad e = not-bad e
+  the-number (got n q) {ns} {p} e =
       let x : n ∷ [] ≡ ns = cc in
       let y : q ≡ p = cc in
-      rw (← x, ← y) (split (ltb n top) (λ s. rw s) (λ s. rw s)))
-      (λ t. not-bad (rw t at e))
+      rw (← x, ← y) (refl, refl)
 
-  one-bad : numbers-at (2 ^ 64) 1 bytes at ≡ bad → numbers-at top 1 bytes at ≡ bad
-  unfolding numbers-at
-  one-bad e = bad-one (number-at bytes at) e
+  module _ (top : ℕ) where
+    one-bad : numbers-at (2 ^ 64) 1 bytes at ≡ bad → numbers-at top 1 bytes at ≡ bad
+    unfolding numbers-at onward
+    one-bad e = rw (below-bad top (no-number (number-at bytes at) (sym any-number ∙ e)))
 
-  module _ {ns : List ℕ} {p : ℕ} (e : numbers-at (2 ^ 64) 1 bytes at ≡ got ns p) where
-    one-over : top ≤ getD ns 0 0 → numbers-at top 1 bytes at ≡ bad
-    unfolding numbers-at
-    one-over h = got-one (number-at bytes at) e ∙ if-false _ _ _ (le-ltb (getD ns 0 0) top h)
+    module _ {ns : List ℕ} {p : ℕ} (e : numbers-at (2 ^ 64) 1 bytes at ≡ got ns p) where
+      one-over : top ≤ getD ns 0 0 → numbers-at top 1 bytes at ≡ bad
+      unfolding numbers-at onward
+      one-over h = rw (below-over top (the-number (number-at bytes at) (sym any-number ∙ e) .0) h)
 
-    one-below : getD ns 0 0 < top → numbers-at top 1 bytes at ≡ got ns p
-    unfolding numbers-at
-    one-below h = got-one (number-at bytes at) e ∙ if-true _ _ _ (lt-ltb (getD ns 0 0) top h)
+      one-below : getD ns 0 0 < top → numbers-at top 1 bytes at ≡ got ns p
+      unfolding numbers-at onward
+      one-below h =
+          let t = the-number (number-at bytes at) (sym any-number ∙ e) in
+          rw (below-got top (t .0) h, ← t .1)
 
-single : (ns : List ℕ) → length ns ≡ 1 → ns ≡ getD ns 0 0 ∷ []
-single [] e = absurd (omega arith)
-single (n ∷ []) e = refl
-single (n ∷ m ∷ ns) e = absurd (omega arith)
+  single : {ns : List ℕ} {p : ℕ} → numbers-at (2 ^ 64) 1 bytes at ≡ got ns p → ns ≡ getD ns 0 0 ∷ []
+  single e = the-number (number-at bytes at) (sym any-number ∙ e) .1
 
 -- THE MARK.
 abbrev event-on : List Stage
@@ -124,7 +115,7 @@ pub record Marked (bytes : List ℕ) (whole : Read (List ℕ)) (before : List �
 module _ (bytes : List ℕ) (start : ℕ) {z : Place} (answer : z ≡ place-of (numbers-at (2 ^ 64) 1 bytes start)) where
   pub mark-bad : z ≡ Place.Bad → rest .read bytes start ≡ bad
   unfolding numbers
-  mark-bad b = left-bad (rest-start bytes start) (one-bad 2 (omega arith) bytes start (at-bad answer b))
+  mark-bad b = left-bad (rest-start bytes start) (one-bad bytes start 2 (at-bad answer b))
 
   module _ {before call : List ℕ} {p : ℕ} (e : z ≡ Place.At p) (long : length before ≡ layout.call-length) (stored : Stored (numbers-at (2 ^ 64) 1 bytes start) before layout.call-has-record call) where
     abbrev number : ℕ
@@ -136,17 +127,17 @@ module _ (bytes : List ℕ) (start : ℕ) {z : Place} (answer : z ≡ place-of (
         let g = at-got answer e in
         let n = numbers-long (2 ^ 64) bytes 1 start (g .value) p (g .is) in
         let m : number ≡ getD (g .value) 0 0 = rw (stored .is (g .value) p (g .is)) (getD-splice before layout.call-has-record (g .value) 0 (omega arith) (omega arith)) in
-        rw (m, ← single (g .value) n) (g .is)
+        rw (m, ← single bytes start (g .is)) (g .is)
 
     pub mark-over : 1 < number → rest .read bytes start ≡ bad
     unfolding numbers
-    mark-over h = left-bad (rest-start bytes start) (one-over 2 (omega arith) bytes start number-read (omega arith))
+    mark-over h = left-bad (rest-start bytes start) (one-over bytes start 2 number-read (omega arith))
 
     pub mark-read : number ≤ 1 → Zero-from layout.call-has-record before → Marked bytes (rest .read bytes start) before p call
     unfolding numbers
     mark-read h blank =
         record {
-          left = left-more (rest-start bytes start) (one-below 2 (omega arith) bytes start number-read (omega arith));
+          left = left-more (rest-start bytes start) (one-below bytes start 2 number-read (omega arith));
           held = record { is = stored .is (number ∷ []) p number-read; blank = blank; long = long };
         }
 
@@ -216,7 +207,7 @@ module _ {bytes : List ℕ} {whole : Read (List ℕ)} {before : List ℕ} {at : 
   behind-event : (r : Read (List ℕ)) → numbers-at (2 ^ 64) layout.event-length bytes at ≡ r → onward r (λ xs p. onward (numbers-at (2 ^ 64) 1 bytes p) (λ ys q. got (xs ++ ys) q)) ≡ bad → whole ≡ bad
   unfolding numbers onward
   behind-event bad f e = left-bad (inv .left) f
-  behind-event (got xs p) f e = left-bad (left-more (inv .left) f) (one-bad 3 (omega arith) bytes p (no-count (numbers-at (2 ^ 64) 1 bytes p) e))
+  behind-event (got xs p) f e = left-bad (left-more (inv .left) f) (one-bad bytes p 3 (no-count (numbers-at (2 ^ 64) 1 bytes p) e))
     where
       no-count : (r : Read (List ℕ)) → onward r (λ ys q. got (xs ++ ys) q) ≡ bad → r ≡ bad
       no-count bad e = refl
@@ -261,14 +252,14 @@ module _ {bytes : List ℕ} {whole : Read (List ℕ)} {before : List ℕ} {at : 
           let i : layout.event-length ≡ length (a .value) + 0 = omega arith in
           let c : count-of ≡ getD (b .value) 0 0 =
           ap (λ (l : List ℕ). getD l layout.call-answered 0) s ∙ (getD-splice call layout.call-sequence (a .value ++ b .value) layout.event-length (omega arith) (omega arith) ∙ ap (λ j. getD (a .value ++ b .value) j 0) i ∙ getD-append-add (a .value) (b .value) 0 0) in
-          let v : b .value ≡ count-of ∷ [] = single (b .value) m ∙ ap (λ (n : ℕ). n ∷ []) (sym c) in
+          let v : b .value ≡ count-of ∷ [] = single bytes (a .place) (b .one) ∙ ap (λ (n : ℕ). n ∷ []) (sym c) in
           record { xs = a .value; place = a .place; first = a .one; second = rw (v, y) at (b .one); is = s ∙ ap (λ (l : List ℕ). splice call layout.call-sequence (a .value ++ l)) v; long = n }
 
       pub count-over : layout.mappings < count-of → whole ≡ bad
       unfolding numbers
       count-over h =
           let t = two-parts in
-          left-bad (left-more (inv .left) (t .first)) (one-over 3 (omega arith) bytes (t .place) (t .second) (omega arith))
+          left-bad (left-more (inv .left) (t .first)) (one-over bytes (t .place) 3 (t .second) (omega arith))
 
       pub count-read : count-of ≤ layout.mappings → Counted bytes whole before p after run
       unfolding numbers
@@ -285,7 +276,7 @@ module _ {bytes : List ℕ} {whole : Read (List ℕ)} {before : List ℕ} {at : 
           record {
             mark = mark;
             event = event;
-            left = rw append-assoc at (left-more (left-more (inv .left) (t .first)) (one-below 3 (omega arith) bytes (t .place) (t .second) (omega arith)));
+            left = rw append-assoc at (left-more (left-more (inv .left) (t .first)) (one-below bytes (t .place) 3 (t .second) (omega arith)));
             is = t .is ∙ ap (λ (xs : List ℕ). splice xs layout.call-sequence event) (held .is) ∙ splice-more before layout.call-has-record (mark ∷ []) event layout.call-sequence (omega arith) (omega arith);
             many = k;
             count = ap (λ j. getD (mark ∷ run ++ event) j 0) i ∙ getD-append-add (mark ∷ run) event (length (t .xs) + 0) 0 ∙ getD-append-add (t .xs) (count-of ∷ []) 0 0;
@@ -300,27 +291,24 @@ pub bad-rest : {r : Read (List ℕ)} {before after given : List ℕ} → r ≡ b
 bad-rest e = record { call = λ ns next f. not-bad (sym e ∙ f); run = λ ns next f. not-bad (sym e ∙ f) }
 
 got-rest : {r : Read (List ℕ)} {before after given ns : List ℕ} {next : ℕ} → r ≡ got ns next → after ≡ splice before layout.call-has-record (take 1 ns ++ drop (1 + layout.record-length) ns) → given ≡ take layout.record-length (drop 1 ns) → Rest-stored r before after given
-got-rest {r} {before} {after} {given} {ns} {next} e f g =
+got-rest {r} {before} e f g =
     record {
-      call = λ ms q h.
-          let i : got ns next ≡ got ms q = sym e ∙ h in
-          let x : ns ≡ ms = cc in
-          rw (← x) f;
-      run = λ ms q h.
-          let i : got ns next ≡ got ms q = sym e ∙ h in
-          let x : ns ≡ ms = cc in
-          rw (← x) g;
+      call = λ ms q h. f ∙ ap (λ (xs : List ℕ). splice before layout.call-has-record (take 1 xs ++ drop (1 + layout.record-length) xs)) (same-read e h);
+      run = λ ms q h. g ∙ ap (λ (xs : List ℕ). take layout.record-length (drop 1 xs)) (same-read e h);
     }
 
 module _ {bytes : List ℕ} {whole : Read (List ℕ)} {before : List ℕ} {at : ℕ} {call run : List ℕ} (inv : Counted bytes whole before at call run) where
   abbrev room : ℕ
   room = layout.mapping-width * layout.mappings
 
-  abbrev used : ℕ
-  used = layout.mapping-width * getD (inv .mark ∷ run ++ inv .event) (1 + layout.record-length + layout.event-length) 0
+  abbrev seen : List ℕ
+  seen = inv .mark ∷ run ++ inv .event
 
-  used-is : (used ≡ layout.mapping-width * getD call layout.call-answered 0) × (used ≤ room)
-  used-is = let c = inv .count in let f = inv .few in (omega arith, omega arith)
+  abbrev used : ℕ
+  used = layout.mapping-width * getD seen (1 + layout.record-length + layout.event-length) 0
+
+  used-few : used ≤ room
+  used-few = let c = inv .count in let f = inv .few in omega arith
 
   pub counted-long : length call ≡ layout.call-length
   counted-long =
@@ -328,47 +316,36 @@ module _ {bytes : List ℕ} {whole : Read (List ℕ)} {before : List ℕ} {at : 
       let m = inv .many in
       ap length (inv .is) ∙ length-splice before layout.call-has-record (inv .mark ∷ inv .event) (omega arith) ∙ l
 
-  no-answers : numbers-at (2 ^ 64) used bytes at ≡ bad → whole ≡ bad
-  unfolding onward
-  no-answers e = left-bad (inv .left) (column-read (2 ^ 64) room used bytes at (used-is .1) ∙ rw e)
+  -- up to the answers the array is written
+  ends-there : layout.call-has-record + length (inv .mark ∷ inv .event) ≡ layout.call-mappings
+  ends-there = let m = inv .many in omega arith
 
-  all-answers : {ns : List ℕ} {p : ℕ} → numbers-at (2 ^ 64) used bytes at ≡ got ns p → whole ≡ got (inv .mark ∷ run ++ (inv .event ++ padded room 0 ns)) p
-  unfolding onward
-  all-answers {ns} {p} e =
-      let f : answers .shape (inv .mark ∷ run ++ inv .event) .read bytes at ≡ got (padded room 0 ns) p = column-read (2 ^ 64) room used bytes at (used-is .1) ∙ rw e in
-      rw append-assoc at (left-end (left-more (inv .left) f))
+  none-yet : Zero-from layout.call-mappings call
+  none-yet =
+      let l = inv .long in
+      let i = ends-there in
+      rw (← inv .is, i) at (zero-behind before layout.call-has-record (inv .blank) (inv .mark ∷ inv .event) (omega arith))
 
-  -- in the call's array
-  module _ {ns after : List ℕ} {p : ℕ} (e : numbers-at (2 ^ 64) used bytes at ≡ got ns p) (stored : after ≡ splice call layout.call-mappings ns) where
-    call-stored : after ≡ splice before layout.call-has-record (inv .mark ∷ inv .event ++ padded room 0 ns)
-    call-stored =
-        let u = used-is in
-        let n = numbers-long (2 ^ 64) bytes used at ns p e in
+  module _ {z : Place} {after : List ℕ} (stored : Stored (column (2 ^ 64) room used .read bytes at) call layout.call-mappings after) where
+    by-answers : (r : Read (List ℕ)) → column (2 ^ 64) room used .read bytes at ≡ r → z ≡ place-of r → (z ≡ place-of whole) × Rest-stored whole before after run
+    unfolding place-of
+    by-answers bad e a = let b = left-bad (inv .left) e in (a ∙ bad-place b, bad-rest b)
+    by-answers (got ns p) e a =
+        let more = inv .event ++ ns in
+        let all : whole ≡ got (inv .mark ∷ run ++ more) p = rw append-assoc at (left-end (left-more (inv .left) e)) in
         let l = inv .long in
-        let m = inv .many in
-        let k : length (padded room 0 ns) ≡ room = padded-long room ns (omega arith) in
-        let c = counted-long in
-        let i : layout.call-has-record + length (inv .mark ∷ inv .event) ≡ layout.call-mappings = omega arith in
-        let z : Zero-from layout.call-mappings call = rw (← inv .is, i) at (zero-behind before layout.call-has-record (inv .blank) (inv .mark ∷ inv .event) (omega arith)) in
-        stored ∙ sym (splice-padded call layout.call-mappings z room ns (omega arith) (omega arith)) ∙ ap (λ (xs : List ℕ). splice xs layout.call-mappings (padded room 0 ns)) (inv .is) ∙
-        splice-more before layout.call-has-record (inv .mark ∷ inv .event) (padded room 0 ns) layout.call-mappings (sym i) (omega arith)
-
-    stored-rest : Rest-stored whole before after run
-    stored-rest =
-        let more = inv .event ++ padded room 0 ns in
+        let i = ends-there in
+        let k = column-long (2 ^ 64) room used bytes at used-few ns p e in
         let r = inv .run-long in
         let d : drop (1 + layout.record-length) (inv .mark ∷ run ++ more) ≡ more = drop-at (inv .mark ∷ run) more (1 + layout.record-length) (omega arith) in
         let t : take layout.record-length (run ++ more) ≡ run = take-at run more layout.record-length r in
-        got-rest (all-answers e) (call-stored ∙ ap (λ (l : List ℕ). splice before layout.call-has-record (inv .mark ∷ l)) (sym d)) (sym t)
+        let c : after ≡ splice before layout.call-has-record (inv .mark ∷ more) =
+        stored .is ns p e ∙ ap (λ (xs : List ℕ). splice xs layout.call-mappings ns) (inv .is) ∙ splice-more before layout.call-has-record (inv .mark ∷ inv .event) ns layout.call-mappings (sym i) (omega arith) in
+        (a ∙ got-place all, got-rest all (c ∙ ap (λ (xs : List ℕ). splice before layout.call-has-record (inv .mark ∷ xs)) (sym d)) (sym t))
 
-  module _ {z : Place} {after : List ℕ} {end : ℕ} (ends : end ≡ layout.call-mappings + layout.mapping-width * getD call layout.call-answered 0) (answer : z ≡ place-of (numbers-at (2 ^ 64) (end - layout.call-mappings) bytes at)) (stored : Stored (numbers-at (2 ^ 64) (end - layout.call-mappings) bytes at) call layout.call-mappings after) where
-    many-used : end - layout.call-mappings ≡ used
-    many-used = let u = used-is in omega arith
-
-    by-answers : (r : Read (List ℕ)) → numbers-at (2 ^ 64) used bytes at ≡ r → z ≡ place-of r → (z ≡ place-of whole) × Rest-stored whole before after run
-    unfolding place-of
-    by-answers bad e a = let b = no-answers e in (a ∙ bad-place b, bad-rest b)
-    by-answers (got ns p) e a = (a ∙ got-place (all-answers e), stored-rest e ((rw many-used at stored) .is ns p e))
-
-    pub answers-read : (z ≡ place-of whole) × Rest-stored whole before after run
-    answers-read = by-answers (numbers-at (2 ^ 64) used bytes at) refl (rw many-used at answer)
+  pub answers-read : {z : Place} {after : List ℕ} {end : ℕ} → end ≡ layout.call-mappings + layout.mapping-width * getD call layout.call-answered 0 → z ≡ place-of (numbers-at (2 ^ 64) (end - layout.call-mappings) bytes at) → Stored (numbers-at (2 ^ 64) (end - layout.call-mappings) bytes at) call layout.call-mappings after → (z ≡ place-of whole) × Rest-stored whole before after run
+  answers-read {z} {after} {end} ends answer stored =
+      let c = inv .count in
+      let many : end - layout.call-mappings ≡ used = omega arith in
+      let n = counted-long in
+      by-answers (column-stored (2 ^ 64) room used bytes at used-few (omega arith) none-yet (rw many at stored)) (column (2 ^ 64) room used .read bytes at) refl (column-place (2 ^ 64) room used bytes at used-few (rw many at answer))

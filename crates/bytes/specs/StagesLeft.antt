@@ -1,29 +1,25 @@
 -- Stages read one behind the other: what is left to read behind the numbers that were seen.
-use mathlib.Core.Path.{_≡_, refl, sym, ap, _∙_}
-use mathlib.Core.List.{List, [], _∷_, _++_, append-assoc, append-nil}
+use mathlib.Core.Path.{_≡_, sym, _∙_}
+use mathlib.Core.List.{List, [], _∷_, _++_, append-nil}
 use Prim.Native.Nat.{ℕ}
 use lib.ListN.{length}
 use Rattle.codec.specs.Read.{Read, got, bad, onward}
 use Rattle.codec.specs.Numbers.{numbers-at}
 use Rattle.codec.specs.Stages.{Shape, numbers, beside, Stage, staged}
 use Rattle.codec.specs.Exact.{Bytes, Exact}
+use Rattle.codec.specs.ShapesLoops.{nothing-yet, behind}
 
 -- An exact shape gives as many numbers as it is wide.
 pub read-long : {shape : Shape} {bytes ns : List ℕ} {at next : ℕ} → Exact shape → Bytes bytes → shape .read bytes at ≡ got ns next → length ns ≡ shape .width
 read-long {shape} {bytes} {ns} {at} {next} exact good e = exact .long ns (exact .only bytes ns at next good e .tidy)
 
+-- A read gives one list.
+pub same-read : {r : Read (List ℕ)} {ns ms : List ℕ} {p q : ℕ} → r ≡ got ns p → r ≡ got ms q → ns ≡ ms
+same-read {r} {ns} {ms} {p} {q} e f = let g : got ns p ≡ got ms q = sym e ∙ f in cc
+
+-- WHAT IS LEFT: the stages, by the numbers that were seen, and the whole is those and theirs.
 pub record Left (stages : List Stage) (bytes : List ℕ) (whole : Read (List ℕ)) (seen : List ℕ) (at : ℕ) : Type 0 where
   pub is : onward (staged stages seen .read bytes at) (λ ns p. got (seen ++ ns) p) ≡ whole
-
-nothing-yet : (r : Read (List ℕ)) → onward r (λ ns p. got ns p) ≡ r
-unfolding onward
-nothing-yet bad = refl
-nothing-yet (got ns p) = refl
-
-behind : (xs ys : List ℕ) (r : Read (List ℕ)) → onward r (λ ns p. got (xs ++ ys ++ ns) p) ≡ onward (onward r (λ ns p. got (ys ++ ns) p)) (λ ns p. got (xs ++ ns) p)
-unfolding onward
-behind xs ys bad = refl
-behind xs ys (got ns p) = ap (λ (l : List ℕ). got l p) (append-assoc xs ys ns)
 
 pub left-start : (stages : List Stage) (bytes : List ℕ) (at : ℕ) → Left stages bytes (staged stages [] .read bytes at) [] at
 left-start stages bytes at = record { is = nothing-yet (staged stages [] .read bytes at) }

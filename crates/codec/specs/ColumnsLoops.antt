@@ -75,7 +75,7 @@ module _ (top room used : ℕ) (bytes : List ℕ) (at : ℕ) (low : used ≤ roo
   filled-up : (ns : List ℕ) (p : ℕ) → column top room used .read bytes at ≡ got ns p → Filled-up ns p
   filled-up ns p e = by-numbers ns p (numbers-at top used bytes at) refl (sym (column-read top room used bytes at low) ∙ e)
 
-  column-long : (ns : List ℕ) (p : ℕ) → column top room used .read bytes at ≡ got ns p → length ns ≡ room
+  pub column-long : (ns : List ℕ) (p : ℕ) → column top room used .read bytes at ≡ got ns p → length ns ≡ room
   column-long ns p e =
       let f = filled-up ns p e in
       let n = f .long in

@@ -29,7 +29,7 @@ pub record Reading-shapes (bytes : List ℕ) (whole : Read (List ℕ)) (before :
   pub room : i + rest .width ≤ length before
   pub blank : Zero-from i list
 
-nothing-yet : (r : Read (List ℕ)) → onward r (λ ns p. got ns p) ≡ r
+pub nothing-yet : (r : Read (List ℕ)) → onward r (λ ns p. got ns p) ≡ r
 unfolding onward
 nothing-yet bad = refl
 nothing-yet (got ns p) = refl
@@ -44,7 +44,7 @@ getD-splice xs at ys k h g =
     let e : at + k ≡ length (take at xs) + k = omega arith in
     rw (e, append-assoc) (getD-append-add (take at xs) (ys ++ drop (at + length ys) xs) k 0 ∙ List·getD-append ys (drop (at + length ys) xs) 0 k g)
 
-behind : (xs ys : List ℕ) (r : Read (List ℕ)) → onward r (λ ns p. got (xs ++ ys ++ ns) p) ≡ onward (onward r (λ ns p. got (ys ++ ns) p)) (λ ns p. got (xs ++ ns) p)
+pub behind : (xs ys : List ℕ) (r : Read (List ℕ)) → onward r (λ ns p. got (xs ++ ys ++ ns) p) ≡ onward (onward r (λ ns p. got (ys ++ ns) p)) (λ ns p. got (xs ++ ns) p)
 unfolding onward
 behind xs ys bad = refl
 behind xs ys (got ns p) = ap (λ (l : List ℕ). got l p) (append-assoc xs ys ns)

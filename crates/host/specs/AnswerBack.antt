@@ -1,12 +1,13 @@
 -- A written answer is read as the answer: what a host finds in its buffer is what the definition says.
 use mathlib.Core.Path.{_≡_, refl, _∙_}
 use mathlib.Core.List.{List, [], _∷_, _++_, flatMap, append-assoc}
-use Prim.Native.Nat.{ℕ, _+_, _<_}
+use Prim.Native.Nat.{ℕ, _+_, _^_, _<_}
 use native.Mathlib.Omega.{arith}
-use lib.ListN.{length, getD, take, drop, length-append, length-replicate, List·getD-append}
+use lib.Dec.{ltb}
+use lib.ListN.{length, getD, take, drop, length-append, length-replicate, List·getD-append, List·getD-eq-default}
 use lib.Seq.{getD-append-add, drop-at, take-at}
-use borrow.Author.Tests.{eq-eqb}
-use Rattle.laws.specs.Bool.{if_then_else_, if-true}
+use borrow.Author.Tests.{ltb-true, ltb-false, eq-eqb}
+use Rattle.laws.specs.Bool.{if_then_else_, split, if-true}
 use Rattle.laws.specs.Rows.{span}
 use Rattle.laws.specs.Splice.{splice}
 use Rattle.laws.specs.Listing.{padded}
@@ -14,6 +15,7 @@ use Rattle.workflow.specs.View.{workflow}
 use Rattle.model.specs.declared.State.{State}
 use Rattle.model.specs.declared.answer.Params.{Params}
 use Rattle.model.specs.declared.answer.Order.{Order}
+use Rattle.model.specs.declared.answer.Answer as code
 use Rattle.model.specs.Answers.{params-numbers, order-numbers, answer-numbers}
 use Rattle.model.specs.Step.{no-note, no-ending}
 use Rattle.kernel.specs.declared.Decision.{Decision}
@@ -23,8 +25,8 @@ use Rattle.host.specs.Layout as layout
 use Rattle.host.specs.Layout.{note-place, ending-place, answer-length, answer-record, record-length}
 use Rattle.host.specs.Read.{at, record-of, call-of, has-record}
 use Rattle.host.specs.Write.{note-numbers, ending-numbers, record-numbers, state-numbers, decision-numbers}
-use Rattle.host.specs.WriteLaws.{flat-size, length-answer, length-note, length-ending}
-use Rattle.host.specs.Host.{receipt, decided, answered}
+use Rattle.host.specs.WriteLaws.{Whole, flat-size, length-answer, length-note, length-ending, length-record}
+use Rattle.host.specs.Host.{receipt, decided, answered, Full}
 use Rattle.host.specs.ReadAnswer.{params-from, order-from, note-from, ending-from, accepted-from, answer-of-numbers}
 use Rattle.host.specs.Fits.{Fits, Accepted-fits, Answer-fits}
 use Rattle.host.specs.Lists.{span-list, row-at, length-padded, padded-at}
@@ -41,6 +43,13 @@ unfolding order-from order-numbers if_then_else_
 order-back a b Order.Nothing rest = refl
 order-back a b (Order.Schedule x) rest = rw (params-back (x .params) rest)
 order-back a b (Order.Retry x) rest = refl
+
+-- The numbers of the state, whose arrays are whole.
+length-state : (a : code.Answer) (s : State) → Whole s → length (state-numbers a s) ≡ record-length
+unfolding state-numbers
+length-state (code.Answer.Next order microsteps) s h = length-record s h
+length-state (code.Answer.Wants node field from) s h = length-record s h
+length-state (code.Answer.Refused number item) s h = length-replicate {A = ℕ} record-length 0
 
 -- A DECISION whose arrays are whole.
 module _ (d : Decision) (noted : length (d .notes) ≡ layout.notes) (ended : length (d .endings) ≡ layout.endings) where
@@ -95,6 +104,9 @@ module _ (d : Decision) (noted : length (d .notes) ≡ layout.notes) (ended : le
   length-decision : length (state-numbers (d .answer) (d .state)) ≡ record-length → length (decision-numbers d) ≡ answer-length
   unfolding decision-numbers
   length-decision e = let a = length-ended in rw (length-append, a, e)
+
+  pub decision-long : Whole (d .state) → length (decision-numbers d) ≡ answer-length
+  decision-long h = length-decision (length-state (d .answer) (d .state) h)
 
 -- A NEXT RECORD.
 module _ (x : Accepted) (f : Accepted-fits x) where
@@ -217,6 +229,17 @@ module _ (buffer numbers : List ℕ) where
   pub splice-at : (n : ℕ) → n < length numbers → at (splice buffer 0 numbers) n ≡ at numbers n
   unfolding splice
   splice-at n h = List·getD-append numbers (drop (0 + length numbers) buffer) 0 n h
+
+  -- and so has 64 bits, as the buffer's numbers have
+  begins-below : ((n : ℕ) → getD (splice buffer 0 numbers) n 0 < 2 ^ 64) → (n : ℕ) → getD numbers n 0 < 2 ^ 64
+  begins-below h n =
+      split (ltb n (length numbers)) (λ e. let s = splice-at n (ltb-true n (length numbers) e) in let b = h n in omega arith)
+      (λ e. let z = List·getD-eq-default numbers 0 (ltb-false n (length numbers) e) in omega arith)
+
+pub full : (buffer : List ℕ) {after : List ℕ} {d made : Decision} → d ≡ made → length (decision-numbers d) ≡ answer-length → after ≡ splice buffer 0 (decision-numbers d) → ((n : ℕ) → getD after n 0 < 2 ^ 64) → Full (decision-numbers made)
+full buffer {after} {d} e long is below =
+    let f : Full (decision-numbers d) = record { long = long; each = begins-below buffer (decision-numbers d) (rw is at below) } in
+    rw e at f
 
 -- What a host reads from the buffer of a call with receipt 0 is the answer of the definition.
 module _ (sheet : List ℕ) (sheet-size : ℕ) (call given buffer : List ℕ) (done : receipt sheet-size call given (length buffer) ≡ layout.written) where

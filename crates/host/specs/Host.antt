@@ -1,8 +1,9 @@
 -- What the exported functions answer.
+use mathlib.Core.Path.{_≡_}
 use mathlib.Core.Bool.{not}
 use mathlib.Core.List.{List, [], _∷_}
-use Prim.Native.Nat.{ℕ}
-use lib.ListN.{length}
+use Prim.Native.Nat.{ℕ, _^_, _<_}
+use lib.ListN.{length, getD}
 use lib.Dec.{ltb, eqb}
 use Rattle.laws.specs.Bool.{if_then_else_, _and_}
 use Rattle.laws.specs.Splice.{splice}
@@ -37,6 +38,11 @@ decided sheet call given = decision-of (transition (workflow sheet) (given-recor
 unfoldable pub answered : (sheet : List ℕ) (sheet-size : ℕ) (call given buffer : List ℕ) → List ℕ
 answered sheet sheet-size call given buffer =
     if eqb (receipt sheet-size call given (length buffer)) written then splice buffer 0 (decision-numbers (decided sheet call given)) else buffer
+
+-- An answer's numbers are as many as the layout says, and each has 64 bits.
+pub record Full (numbers : List ℕ) : Type 0 where
+  pub long : length numbers ≡ answer-length
+  pub each : (n : ℕ) → getD numbers n 0 < 2 ^ 64
 
 -- A VERDICT: the refusal's number and its item, or 0 and 0.
 unfoldable pub verdict-receipt : (sheet-size room : ℕ) → ℕ

@@ -17,10 +17,11 @@ use workflow::layout::NODE_COUNT;
 use workflow::layout::NUMBERS;
 ghost use mathlib.Core.Path.{_≡_};
 ghost use lib.ListN.{length};
-ghost use Rattle.host.specs.Layout.{layout-version, record-length, call-length};
+ghost use Rattle.host.specs.Layout.{layout-version, record-length, call-length, written};
 ghost use Rattle.host.specs.Read.{has-record};
 ghost use Rattle.host.specs.ByCount.{Used-rows};
-ghost use Rattle.host.specs.Host.{receipt, answered, verdict-receipt, verdict-numbers, judged};
+ghost use Rattle.host.specs.Write.{decision-numbers};
+ghost use Rattle.host.specs.Host.{receipt, decided, answered, Full, verdict-receipt, verdict-numbers, judged};
 ghost use Rattle.host.specs.HostLaws.{by-lengths, by-numbers};
 
 // The version of the layout of sheet, call, record, answer and verdict.
@@ -79,6 +80,7 @@ pub extern "C" fn kuxhoveza_transition(
 ) -> u32
     ensures { λ r. ⌜ r ≡ receipt «sheet_len» (now (call .entry)) (now (given .entry)) (length (now (answer .entry))) ⌝ }
     ensures { λ _. ⌜ now (answer .exit) ≡ answered (now (sheet .entry)) «sheet_len» (now (call .entry)) (now (given .entry)) (now (answer .entry)) ⌝ }
+    ensures { λ r. ⌜ (r ≡ written → Full (decision-numbers (decided (now (sheet .entry)) (now (call .entry)) (now (given .entry))))) ⌝ }
 {
     let lengths = by_lengths(sheet_len, call.len(), given.len(), answer.len());
     if lengths != layout::WRITTEN {

@@ -298,6 +298,7 @@ fn clear(out: &mut [u64])
 pub fn write_decision(out: &mut [u64], d: Decision, count: usize)
     requires { ⌜ (answer-length ≤ length (now out)) × (count ≤ nodes) × Counted d ⌝ }
     ensures { λ _. ⌜ now (out .exit) ≡ splice (now (out .entry)) 0 (decision-numbers d) ⌝ }
+    ensures { λ _. ⌜ length (decision-numbers d) ≡ answer-length ⌝ }
 {
     let answer = d.answer;
     let numbers = answer.numbers();

@@ -26,6 +26,7 @@ use Rattle.host.specs.RoundBack.{record-back-of, numbers-fit}
 use Rattle.host.specs.AnswerBack.{next-record, want-record, answered-begins, answered-read}
 use Rattle.shipped.specs.Sheet.{sheet-fits}
 use Rattle.shipped.specs.Ranges.{Last-fits, Record-fits, kept-fits}
+use Rattle.shipped.specs.Refusals.{Known-answer, known-answer}
 use Rattle.shipped.specs.Shipped.{answer-in, record-in}
 
 -- WHAT A HOST FINDS in the buffer of an answer: its kind; the record, if there is one, which fits and is read as the answer's record; and read as a whole it is the answer.
@@ -89,10 +90,13 @@ module _ (sheet : List ℕ) (sheet-size : ℕ) (call given buffer : List ℕ) (s
   given-fits false h = tt
   given-fits true h = fits-read given (not-false _ h)
 
-  single : Single (workflow sheet) (call-of call) (begun (workflow sheet) the-record (call-of call)) the-answer
+  pub single : Single (workflow sheet) (call-of call) (begun (workflow sheet) the-record (call-of call)) the-answer
   single = every-call (workflow sheet) the-record (call-of call) (sized the-record (given-fits _ (tested .1)))
 
-  fits : Answer-fits the-answer
+  pub known : Known-answer the-answer
+  known = known-answer (workflow sheet) the-record (call-of call) (sized the-record (given-fits _ (tested .1)))
+
+  pub fits : Answer-fits the-answer
   fits =
       answer-fits (workflow sheet) the-answer
       (kept-fits (workflow sheet) the-record (call-of call) (sheet-fits sheet small) (call-fits-read call (tested .0)) (given-fits _ (tested .1))) (single .proper)

@@ -1,7 +1,7 @@
 -- A record that the run check takes is tidy as the numbers of a run: what is stored, streaks and results are zero where they are unused.
 use mathlib.Core.Path.{_≡_, refl, sym, _∙_}
 use mathlib.Core.Bool.{true}
-use mathlib.Core.List.{List, [], _++_, flatMap, append-assoc, append-nil}
+use mathlib.Core.List.{List, [], _∷_, _++_, flatMap, append-assoc, append-nil}
 use Prim.Native.Nat.{ℕ, _*_, _^_}
 use native.Mathlib.Omega.{arith}
 use lib.Dec.{eqb, ltb}
@@ -30,7 +30,6 @@ use Rattle.codec.specs.Stages.{numbers, column, all-zero}
 use Rattle.codec.specs.Slots.{slots}
 use Rattle.codec.specs.SlotsLaws.{slots-width}
 use Rattle.bytes.specs.Run.{single-numbers, stored-signals, all-visits, all-streaks, all-results, run}
-use Rattle.bytes.specs.RunLaws as laws
 use Rattle.shipped.specs.TidyRows.{every-parts, stage-tidy, no-stage-tidy, numbers-tidy, rows-zero, rows-column, rows-slots}
 
 -- UNUSED ROWS.
@@ -147,10 +146,10 @@ module _ (f : Workflow) (s : State) (fits : Tidies f s) (below : all-below (2 ^ 
       let c = flat-size streak-numbers layout.nodes length-streak (s .streaks) (whole .streaks) ∙ sym (slots-width (2 ^ 64) 1 0 layout.nodes) in
       let d = flat-size result-numbers layout.nodes length-result (s .results) (whole .results) ∙ sym (slots-width (2 ^ 64) 2 3 layout.nodes) in
       rw (laid s)
-      (stage-tidy single-numbers laws.from-signals [] (head-numbers s) _ (length-head s) (numbers-tidy (2 ^ 64) layout.record-signals (head-numbers s) (length-head s) (head-below .0))
-      (stage-tidy stored-signals laws.from-visits _ (signals s) _ a signals-tidy
-      (stage-tidy all-visits laws.from-streaks _ (visits s) _ visits-long (numbers-tidy (2 ^ 64) layout.nodes (visits s) visits-long (visits-below .0))
-      (stage-tidy all-streaks laws.from-results _ (streaks s) _ c streaks-tidy (stage-tidy all-results [] _ (results s) [] d results-tidy (no-stage-tidy _))))))
+      (stage-tidy single-numbers (stored-signals ∷ all-visits ∷ all-streaks ∷ all-results ∷ []) [] (head-numbers s) _ (length-head s) (numbers-tidy (2 ^ 64) layout.record-signals (head-numbers s) (length-head s) (head-below .0))
+      (stage-tidy stored-signals (all-visits ∷ all-streaks ∷ all-results ∷ []) _ (signals s) _ a signals-tidy
+      (stage-tidy all-visits (all-streaks ∷ all-results ∷ []) _ (visits s) _ visits-long (numbers-tidy (2 ^ 64) layout.nodes (visits s) visits-long (visits-below .0))
+      (stage-tidy all-streaks (all-results ∷ []) _ (streaks s) _ c streaks-tidy (stage-tidy all-results [] _ (results s) [] d results-tidy (no-stage-tidy _))))))
 
 -- THE RUN CHECK takes it.
 pub record-tidy : (f : Workflow) (s : State) → consistent f s ≡ true → Sized s → all-below (2 ^ 64) (record-numbers s) ≡ true → run .tidy (record-numbers s) ≡ true

@@ -1,6 +1,7 @@
 use mathlib.Core.Path.{sym, _∙_}
 use native.Mathlib.Omega.{arith}
 use Rattle.host.specs.HostLaws.{lent, receipt-turned, receipt-read, made, left, untouched}
+use Rattle.host.specs.AnswerBack.{full}
 use Rattle.host.specs.WriteRows.{counted}
 use borrow.Author.Needs.{needs}
 use Rattle.host.proofs.kuxhoveza_transition.Statement.{statement}
@@ -12,7 +13,7 @@ returns c =
     let a = c1 .before .before .before .before .args in
     let e = c1 .by-lengths .ensures in
     let turned = receipt-turned (a .sheet-len) (a .call .now) (a .given .now) _ (λ z. c .if1 .taken (e ∙ z)) in
-    (e ∙ turned, untouched (a .sheet .now) (a .sheet-len) (a .call .now) (a .given .now) (a .answer .now) (λ z. c .if1 .taken (e ∙ turned ∙ z)))
+    (e ∙ turned, (untouched (a .sheet .now) (a .sheet-len) (a .call .now) (a .given .now) (a .answer .now) (λ z. c .if1 .taken (e ∙ turned ∙ z)), λ z. absurd (c .if1 .taken z)))
 
 shared-slice-read-has-record : tie.Need-shared-slice-read-has-record
 shared-slice-read-has-record c = omega (arith, lent _ _ _ _ (sym (c .before .before .by-lengths .ensures) ∙ c .before .if1 .left) .call)
@@ -63,7 +64,7 @@ returns-2 c =
     let b = a .answer .now in
     let told = c8 .by-numbers .ensures ∙ receipt-read n k r _ (sym (c13 .before .by-lengths .ensures) ∙ c13 .if1 .left) in
     let d = made w n k r b (c9 .used-rows .ensures) (c5 .read-record .ensures) (c4 .read-call .ensures) (c3 .transition .ensures) in
-    (told, left w n k r b d (sym told ∙ c7 .if2 .taken) (c2 .write-decision .ensures))
+    (told, (left w n k r b d (sym told ∙ c7 .if2 .taken) (c2 .write-decision .ensures .0), λ _. full b d (c2 .write-decision .ensures .1) (c2 .write-decision .ensures .0) (λ i. omega (arith, c .slice-known2 .given i))))
 
 returns-3 : tie.Need-returns-3
 returns-3 c =
@@ -71,7 +72,7 @@ returns-3 c =
     let c6 = c1 .before .before .before .before .before in
     let a = c6 .before .before .before .before .before .args in
     let told = c1 .by-numbers .ensures ∙ receipt-read (a .sheet-len) (a .call .now) (a .given .now) _ (sym (c6 .before .by-lengths .ensures) ∙ c6 .if1 .left) in
-    (told, untouched (a .sheet .now) (a .sheet-len) (a .call .now) (a .given .now) (a .answer .now) (λ z. c .if2 .left (told ∙ z)))
+    (told, (untouched (a .sheet .now) (a .sheet-len) (a .call .now) (a .given .now) (a .answer .now) (λ z. c .if2 .left (told ∙ z)), λ z. absurd (c .if2 .left z)))
 
 pub kuxhoveza-transition-spec : {M : Type 1} → statement M
 kuxhoveza-transition-spec =

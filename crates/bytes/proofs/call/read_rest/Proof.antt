@@ -2,7 +2,7 @@ use borrow.Author.Needs.{needs}
 use native.Mathlib.Omega.{arith}
 use mathlib.Core.Path.{_≡_, refl}
 use mathlib.Core.List.{List}
-use Prim.Native.Nat.{ℕ, _^_}
+use Prim.Native.Nat.{ℕ}
 use lib.ListN.{length}
 use Rattle.host.specs.Layout.{call-length}
 use Rattle.codec.specs.Read.{Read}
@@ -48,7 +48,6 @@ counted c =
     let called = event .before .before in
     count-read (given (called .before .before .before)) (called .read-longs2 .ensures .0) (event .event .given .1) (called .read-longs2 .ensures .1) (c .if2 .left)
 
--- src/call.rt:51:9
 returns : tie.Need-returns
 returns c =
     let called = c .before .before in

@@ -5,6 +5,7 @@ use Rattle.laws.specs.Arrays.{length-field}
 use Rattle.host.specs.Layout.{notes, endings}
 use Rattle.host.specs.WriteLaws.{Whole}
 use Rattle.host.specs.WriteRows.{front-written, refusal-written, record-written, wrote-left}
+use Rattle.host.specs.AnswerBack.{decision-long}
 use borrow.Author.Needs.{needs}
 use Rattle.host.proofs.write.write_decision.Statement.{statement}
 use Rattle.host.proofs.write.write_decision.Tie as tie
@@ -42,7 +43,7 @@ returns c =
     let c31 = c24 .before .before .before .before .before .before .before in
     let s = c31 .before .before in
     let w = front-written (s .args .d) (s .pre .0) (noted s) (ended s) (c24 .clear .ensures) (c31 .numbers .ensures) (c19 .write .ensures) (c14 .write2 .ensures) (c9 .write-notes .ensures) (c4 .write-endings .ensures) in
-    refusal-written (s .args .d) w (sym (c .before .is-refused .ensures) ∙ c .if1 .taken)
+    (refusal-written (s .args .d) w (sym (c .before .is-refused .ensures) ∙ c .if1 .taken), decision-long (s .args .d) (noted s) (ended s) (whole s))
 
 write-record-requires : tie.Need-write-record-requires
 write-record-requires c κs =
@@ -66,7 +67,7 @@ returns-2 c =
     let c35 = c28 .before .before .before .before .before .before .before in
     let s = c35 .before .before in
     let w = front-written (s .args .d) (s .pre .0) (noted s) (ended s) (c28 .clear .ensures) (c35 .numbers .ensures) (c23 .write .ensures) (c18 .write2 .ensures) (c13 .write-notes .ensures) (c8 .write-endings .ensures) in
-    record-written (s .args .d) w (sym (c .before .before .before .before .before .is-refused .ensures) ∙ c .before .before .before .before .if1 .left) (whole s) (c .before .before .write-record .ensures)
+    (record-written (s .args .d) w (sym (c .before .before .before .before .before .is-refused .ensures) ∙ c .before .before .before .before .if1 .left) (whole s) (c .before .before .write-record .ensures), decision-long (s .args .d) (noted s) (ended s) (whole s))
 
 pub write-decision-spec : {M : Type 1} → statement M
 write-decision-spec =
