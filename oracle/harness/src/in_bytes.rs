@@ -369,7 +369,8 @@ impl Comparison {
                     true => shrunk(bytes, |bytes| self.sides.take(it, bytes, room).is_err()),
                     false => bytes.to_vec(),
                 };
-                let parted = self.sides.take(it, &small, room).err().expect("it parts");
+                let parted = self.sides.take(it, &small, room);
+                let parted = parted.expect_err("it parts");
                 self.difference(|| {
                     let name = it.name();
                     format!("{name} {} in {room}: {small:02x?}", parted.text())
