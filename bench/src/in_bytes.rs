@@ -17,9 +17,12 @@ use crate::{after, geometric_mean, least};
 pub struct Measured {
     /// The greatest ratio of a write or a read to plain Rust.
     pub greatest: f64,
-    /// Geometric means of calls, whole and on a sheet, and the greatest ratio of one but the longest.
-    pub calls: f64,
-    pub calls_on: f64,
+    /// Geometric means of calls: library / plain behind the boundary and in place, whole and on a sheet.
+    pub boundary: f64,
+    pub in_place: f64,
+    pub boundary_on: f64,
+    pub in_place_on: f64,
+    /// The greatest ratio to plain behind the boundary, but the longest call's.
     pub greatest_call: f64,
 }
 
@@ -201,31 +204,73 @@ fn stored() -> f64 {
     greatest.max(parts("64 nodes", &result, true))
 }
 
-/// The ratios of a call, whole and on a sheet.
-fn show_call(name: &str, call: &Call) -> [f64; 2] {
+/// A call in bytes: whole, or on a sheet in numbers. Times in nanoseconds.
+struct Times {
+    /// Plain Rust behind the boundary of numbers, and with the sheet read in place.
+    boundary: f64,
+    in_place: f64,
+    library: f64,
+}
+
+impl Times {
+    /// What a row shows of it, to the library's time of the same call in numbers.
+    fn row(&self, numbers: f64) -> String {
+        let Times {
+            boundary,
+            in_place,
+            library,
+        } = self;
+        format!(
+            "{numbers:.0} | {boundary:.0} | {in_place:.0} | {library:.0} | {:.2} | {:.2} | {:.2} |",
+            library / numbers,
+            library / boundary,
+            library / in_place,
+        )
+    }
+}
+
+struct Shown<'a> {
+    name: &'a str,
+    /// Bytes of the call, whole and without its sheet, and of its answer; of the original's JSON in and out.
+    sizes: [usize; 5],
+    original: f64,
+    numbers: f64,
+    whole: Times,
+    on: Times,
+}
+
+fn shown<'a>(name: &'a str, call: &Call) -> Shown<'a> {
     let parts = Parts::of(call);
     let asked = Asked::of(call).expect("a sheet with its form");
-    let (whole, rest) = (parts.bytes(true), parts.bytes(false));
+    let (whole, rest) = (&parts.bytes(true)[..], &parts.bytes(false)[..]);
     let sheet = &parts.sheet[..];
     let run = parts.run.unwrap_or([0; RECORD]);
     let mut numbers = [0; ANSWER];
-    let mut buffers = [[0; ANSWER_BYTES]; 4];
-    let [a, b, c, d] = &mut buffers;
-    let said = raw::call(&whole, a);
-    assert_eq!(plain::call(&whole, b), said, "{name}");
-    assert_eq!(raw::call_on(sheet, &rest, c), said, "{name}");
-    assert_eq!(plain::call_on(sheet, &rest, d), said, "{name}");
+    let mut buffers = [[0; ANSWER_BYTES]; 6];
+    let [a, b, c, d, e, f] = &mut buffers;
+    let structs = boundary::transition;
+    let in_place = boundary::transition_in_place;
+    let said = raw::call(whole, a);
+    for other in [
+        plain::call_through(structs, whole, b),
+        plain::call_through(in_place, whole, c),
+        raw::call_on(sheet, rest, d),
+        plain::call_on_through(structs, sheet, rest, e),
+        plain::call_on_through(in_place, sheet, rest, f),
+    ] {
+        assert_eq!(other, said, "{name}");
+    }
     assert!(buffers.iter().all(|buffer| *buffer == buffers[0]), "{name}");
     let (number, size) = raw::parts(said);
-    let out = if number == 0 { size } else { 0 };
+    let out = if number == 0 { size as usize } else { 0 };
     let json_in = asked.sheet().len() + asked.run().map_or(0, <[u8]>::len) + asked.event().len();
     let json_out = asked.transition().map_or(0, |decision| {
         let commands = decision.commands.iter().map(|it| it.payload.len());
         let notes = decision.diagnostics.iter().map(|it| it.details.len());
         decision.snapshot.len() + commands.chain(notes).sum::<usize>()
     });
-    let [a, b, c, d] = &mut buffers;
-    let [original, in_numbers, whole_plain, whole_library, on_plain, on_library] = least([
+    let [a, b, c, d, e, f] = &mut buffers;
+    let times = least([
         &mut || {
             black_box(black_box(&asked).transition().is_ok());
         },
@@ -233,62 +278,89 @@ fn show_call(name: &str, call: &Call) -> [f64; 2] {
             raw::transition(black_box(sheet), &parts.call, &run, black_box(&mut numbers));
         },
         &mut || {
-            black_box(plain::call(black_box(&whole), black_box(a)));
+            black_box(raw::call(black_box(whole), black_box(a)));
         },
         &mut || {
-            black_box(raw::call(black_box(&whole), black_box(b)));
+            let whole = black_box(whole);
+            black_box(plain::call_through(structs, whole, black_box(b)));
         },
         &mut || {
-            black_box(plain::call_on(
-                black_box(sheet),
-                black_box(&rest),
-                black_box(c),
-            ));
+            let whole = black_box(whole);
+            black_box(plain::call_through(in_place, whole, black_box(c)));
         },
         &mut || {
-            black_box(raw::call_on(
-                black_box(sheet),
-                black_box(&rest),
-                black_box(d),
-            ));
+            let (sheet, rest) = black_box((sheet, rest));
+            black_box(raw::call_on(sheet, rest, black_box(d)));
+        },
+        &mut || {
+            let (sheet, rest) = black_box((sheet, rest));
+            black_box(plain::call_on_through(structs, sheet, rest, black_box(e)));
+        },
+        &mut || {
+            let (sheet, rest) = black_box((sheet, rest));
+            black_box(plain::call_on_through(in_place, sheet, rest, black_box(f)));
         },
     ]);
-    println!(
-        "| {name} | {} | {} | {out} | {json_in} | {json_out} | {original:.0} | {in_numbers:.0} | {whole_plain:.0} | {whole_library:.0} | {on_plain:.0} | {on_library:.0} | {:.1} | {:.2} | {:.2} | {:.2} | {:.2} |",
-        whole.len(),
-        rest.len(),
-        original / whole_library,
-        whole_library / in_numbers,
-        on_library / in_numbers,
-        whole_library / whole_plain,
-        on_library / on_plain,
-    );
-    [whole_library / whole_plain, on_library / on_plain]
+    let [original, numbers, whole_times @ .., d, e, f] = times;
+    let of = |[library, boundary, in_place]: [f64; 3]| Times {
+        boundary,
+        in_place,
+        library,
+    };
+    Shown {
+        name,
+        sizes: [whole.len(), rest.len(), out, json_in, json_out],
+        original,
+        numbers,
+        whole: of(whole_times),
+        on: of([d, e, f]),
+    }
 }
 
-/// Shows both tables; the cases of calls are those of the numbers, of which one is the longest.
+const TIMES: &str = "Library, numbers | Plain, boundary | Plain, in place | Library | Library / numbers | Library / plain, boundary | Library / plain, in place |";
+
+/// Shows the tables; the cases of calls are those of the numbers, of which one is the longest.
 pub fn measure(cases: &[(String, Call)], longest: &str) -> Measured {
     let greatest = stored();
-    println!();
-    println!("| Call | Bytes, whole | without sheet | of the answer | JSON in | JSON out | Original, ns | Library, numbers | Plain, whole | Library, whole | Plain, on a sheet | Library, on a sheet | Original / library, whole | Whole / numbers | On a sheet / numbers | Library / plain, whole | Library / plain, on a sheet |");
-    println!("|---|---|---|---|---|---|---|---|---|---|---|---|---|---|---|---|---|");
-    let ratios: Vec<(&str, [f64; 2])> = cases
-        .iter()
-        .map(|(name, call)| (&name[..], show_call(name, call)))
-        .collect();
-    let others = ratios.iter().filter(|(name, _)| *name != longest);
+    let shown: Vec<Shown> = cases.iter().map(|(name, call)| shown(name, call)).collect();
+    println!("\n| Call | Bytes, whole | without sheet | of the answer | JSON in | JSON out |");
+    println!("|---|---|---|---|---|---|");
+    for Shown { name, sizes, .. } in &shown {
+        let [whole, rest, out, json_in, json_out] = sizes;
+        println!("| {name} | {whole} | {rest} | {out} | {json_in} | {json_out} |");
+    }
+    println!("\n| Whole call | Original, ns | Original / library | {TIMES}");
+    println!("|---|---|---|---|---|---|---|---|---|---|");
+    for it in &shown {
+        let original = it.original;
+        let times = original / it.whole.library;
+        let row = it.whole.row(it.numbers);
+        println!("| {} | {original:.0} | {times:.1} | {row}", it.name);
+    }
+    println!("\n| Call on a sheet | {TIMES}");
+    println!("|---|---|---|---|---|---|---|---|");
+    for it in &shown {
+        println!("| {} | {}", it.name, it.on.row(it.numbers));
+    }
+    let mean = |ratio: fn(&Shown) -> f64| geometric_mean(shown.iter().map(ratio));
+    let to_boundary = |times: &Times| times.library / times.boundary;
+    let others = shown.iter().filter(|it| it.name != longest);
+    let ratios = others.flat_map(|it| [&it.whole, &it.on].map(to_boundary));
     let measured = Measured {
         greatest,
-        calls: geometric_mean(ratios.iter().map(|(_, ratios)| ratios[0])),
-        calls_on: geometric_mean(ratios.iter().map(|(_, ratios)| ratios[1])),
-        greatest_call: others.flat_map(|(_, ratios)| *ratios).fold(0.0, f64::max),
+        boundary: mean(|it| it.whole.library / it.whole.boundary),
+        in_place: mean(|it| it.whole.library / it.whole.in_place),
+        boundary_on: mean(|it| it.on.library / it.on.boundary),
+        in_place_on: mean(|it| it.on.library / it.on.in_place),
+        greatest_call: ratios.fold(0.0, f64::max),
     };
-    println!();
     println!(
-        "Geometric mean of {} calls: library / plain, whole {:.3}; on a sheet {:.3}",
-        ratios.len(),
-        measured.calls,
-        measured.calls_on
+        "\nGeometric mean of {} calls: library / plain, boundary {:.3} whole, {:.3} on a sheet; library / plain, in place {:.3} whole, {:.3} on a sheet",
+        shown.len(),
+        measured.boundary,
+        measured.boundary_on,
+        measured.in_place,
+        measured.in_place_on,
     );
     measured
 }

@@ -296,8 +296,10 @@ fn check(verdicts: f64, measured: &Measured, bytes: &in_bytes::Measured) -> bool
         ("longest-to-original", measured.longest_to_original),
         ("large-copies", large as f64),
         ("bytes", bytes.greatest),
-        ("bytes-calls", bytes.calls),
-        ("bytes-calls-on", bytes.calls_on),
+        ("bytes-boundary", bytes.boundary),
+        ("bytes-in-place", bytes.in_place),
+        ("bytes-boundary-on", bytes.boundary_on),
+        ("bytes-in-place-on", bytes.in_place_on),
         ("bytes-greatest-call", bytes.greatest_call),
     ];
     let mut within = true;

@@ -1,5 +1,6 @@
 //! The functions of bytes in plain Rust (include/kuxhoveza.h, docs/BYTES.md), to be measured: sizes first, then the write; a
-//! read goes into a local array and is copied where all of it is good. The call is `transition_in_place`.
+//! read goes into a local array and is copied where all of it is good. A call is the plain reading's, behind the boundary
+//! of numbers.
 
 use calls::layout::*;
 
@@ -107,6 +108,8 @@ impl Reader<'_> {
         }
     }
 
+    /// Behind a first group that isn't the last. Out of line, so that a number of one byte takes no call.
+    #[inline(never)]
     fn following(&mut self, first: u8) -> Option<u64> {
         let mut number = u64::from(first);
         for shift in (7..63).step_by(7) {
@@ -429,7 +432,12 @@ fn take_rest(reader: &mut Reader, call: &mut [u64; CALL], run: &mut [u64; RECORD
     reader.is_at_end().then_some(())
 }
 
-pub fn call(bytes: &[u8], buffer: &mut [u8]) -> u64 {
+/// The call behind the boundary of numbers.
+pub trait Transition: Fn(&[u32], &[u64], &[u64], &mut [u64]) -> u32 {}
+
+impl<T: Fn(&[u32], &[u64], &[u64], &mut [u64]) -> u32> Transition for T {}
+
+pub fn call_through(transition: impl Transition, bytes: &[u8], buffer: &mut [u8]) -> u64 {
     let mut sheet = [0; SHEET];
     let (mut call, mut run) = ([0; CALL], [0; RECORD]);
     let reader = &mut Reader { bytes, at: 0 };
@@ -438,11 +446,16 @@ pub fn call(bytes: &[u8], buffer: &mut [u8]) -> u64 {
         .and_then(|()| take_rest(reader, &mut call, &mut run));
     match read {
         None => refused(BAD_BYTES),
-        Some(()) => answered(&sheet, &call, &run, buffer),
+        Some(()) => answered(transition, &sheet, &call, &run, buffer),
     }
 }
 
-pub fn call_on(sheet: &[u32], bytes: &[u8], buffer: &mut [u8]) -> u64 {
+pub fn call_on_through(
+    transition: impl Transition,
+    sheet: &[u32],
+    bytes: &[u8],
+    buffer: &mut [u8],
+) -> u64 {
     if sheet.len() != SHEET {
         return said(BAD_SHEET_LENGTH, 0);
     }
@@ -451,13 +464,27 @@ pub fn call_on(sheet: &[u32], bytes: &[u8], buffer: &mut [u8]) -> u64 {
     let read = take_head(reader, &mut call).and_then(|()| take_rest(reader, &mut call, &mut run));
     match read {
         None => refused(BAD_BYTES),
-        Some(()) => answered(sheet, &call, &run, buffer),
+        Some(()) => answered(transition, sheet, &call, &run, buffer),
     }
 }
 
-fn answered(sheet: &[u32], call: &[u64], run: &[u64], buffer: &mut [u8]) -> u64 {
+pub fn call(bytes: &[u8], buffer: &mut [u8]) -> u64 {
+    call_through(crate::transition_in_place, bytes, buffer)
+}
+
+pub fn call_on(sheet: &[u32], bytes: &[u8], buffer: &mut [u8]) -> u64 {
+    call_on_through(crate::transition_in_place, sheet, bytes, buffer)
+}
+
+fn answered(
+    transition: impl Transition,
+    sheet: &[u32],
+    call: &[u64],
+    run: &[u64],
+    buffer: &mut [u8],
+) -> u64 {
     let mut answer = [0; ANSWER];
-    if crate::transition_in_place(sheet, call, run, &mut answer) as usize != WRITTEN {
+    if transition(sheet, call, run, &mut answer) as usize != WRITTEN {
         return refused(BAD_BYTES);
     }
     let (head, run) = answer.split_at(ANSWER_RECORD);

@@ -369,7 +369,8 @@ impl Comparison {
                     true => shrunk(bytes, |bytes| self.sides.take(it, bytes, room).is_err()),
                     false => bytes.to_vec(),
                 };
-                let parted = self.sides.take(it, &small, room).err().expect("it parts");
+                let parted = self.sides.take(it, &small, room);
+                let parted = parted.expect_err("it parts");
                 self.difference(|| {
                     let name = it.name();
                     format!("{name} {} in {room}: {small:02x?}", parted.text())
@@ -735,8 +736,8 @@ fn required() -> Vec<String> {
 pub fn run(seeds: &[u64], calls: u64, damaged: u64, first: bool) -> Result<bool, String> {
     let recorded = sample::recorded()?;
     let cases = joint::cases().len();
-    // First the cases, then the parts of the sample, then the seeds.
-    let works: Vec<u64> = (0..(cases + PARTS + seeds.len()) as u64).collect();
+    // First the seeds, then the cases, then the parts of the sample.
+    let works: Vec<u64> = (0..(seeds.len() + cases + PARTS) as u64).collect();
     let total = Mutex::new((Counts::new(), 0));
     each_seed(&works, |n| {
         let n = n as usize;
@@ -744,13 +745,13 @@ pub fn run(seeds: &[u64], calls: u64, damaged: u64, first: bool) -> Result<bool,
             return;
         }
         let mut comparison = Comparison::new(n as u64, first);
-        match (n.checked_sub(cases), n.checked_sub(cases + PARTS)) {
-            (None, _) => comparison.joint(n),
-            (Some(part), None) => comparison.recorded(&recorded, part),
-            (_, Some(i)) => {
-                comparison.rng = Rng::new(seeds[i]);
-                comparison.seed(seeds[i], calls, damaged);
+        match (seeds.get(n), n.checked_sub(seeds.len() + cases)) {
+            (Some(seed), _) => {
+                comparison.rng = Rng::new(*seed);
+                comparison.seed(*seed, calls, damaged);
             }
+            (None, None) => comparison.joint(n - seeds.len()),
+            (None, Some(part)) => comparison.recorded(&recorded, part),
         }
         let mut total = total.lock().unwrap();
         for (key, count) in comparison.counts {
