@@ -29,8 +29,8 @@ next = staged next-stages []
 -- of a want nothing stands between its four numbers and the run
 abbrev pub want-stages : List Stage
 want-stages =
-    record { room = layout.want-length; shape = λ _. numbers (2 ^ 64) layout.want-length }
-    ∷ record { room = layout.answer-record - layout.want-length; shape = λ _. column (2 ^ 64) (layout.answer-record - layout.want-length) 0 }
+    record { room = layout.want-width; shape = λ _. numbers (2 ^ 64) layout.want-width }
+    ∷ record { room = layout.answer-record - layout.want-width; shape = λ _. column (2 ^ 64) (layout.answer-record - layout.want-width) 0 }
     ∷ the-run
     ∷ []
 
@@ -46,4 +46,4 @@ answer-head ns =
     if eqb (getD ns layout.answer-kind 0) 1 then
     take (layout.answer-notes + layout.note-width * min (getD ns layout.answer-noted 0) layout.notes) ns
     ++ take (layout.ending-width * min (getD ns layout.answer-ended 0) layout.endings) (drop layout.answer-endings ns)
-    else take layout.want-length ns
+    else take layout.want-width ns

@@ -37,7 +37,7 @@ next-stages-exact = (
 )
 
 want-stages-exact : All Stage-exact want-stages
-want-stages-exact = (numbers-stage layout.want-length, (column-stage (layout.answer-record - layout.want-length) (λ _. 0), (run-stage, tt)))
+want-stages-exact = (numbers-stage layout.want-width, (column-stage (layout.answer-record - layout.want-width) (λ _. 0), (run-stage, tt)))
 
 module _ (kind : ℕ) where
   pub answer-exact : Exact (answer kind)
@@ -79,7 +79,7 @@ module _ (ns : List ℕ) where
       let q : take (2 * getD ns 12 0) (take 130 (drop 338 ns)) ≡ take ended (drop 338 ns) = take-least (2 * getD ns 12 0) 130 ended (drop 338 ns) (omega arith) in
       rw (a, b, c, d, run-width, e, p, q, take-add 13 (5 * min noted 65) ns) (sym (append-assoc (take 13 ns) (take (5 * min noted 65) (drop 13 ns)) _))
 
-  want-parts : want .fields ns ≡ take layout.want-length ns ++ from-run
+  want-parts : want .fields ns ≡ take layout.want-width ns ++ from-run
   unfolding want staged beside numbers column widths part
   want-parts =
       let d : drop 464 (drop 4 ns) ≡ drop 468 ns = drop-drop 464 4 ns in
@@ -109,7 +109,7 @@ module _ (ns : List ℕ) where
       let b : q - layout.answer-endings ≡ ended ns = omega arith in
       record { is = rw (eq-eqb (getD ns layout.answer-kind 0) 1 kind, a, b) (bytes-append _ _) }
 
-  pub want-head : (getD ns layout.answer-kind 0 ≡ 1 → ⊥) → answer-head ns ≡ part ns 0 layout.want-length
+  pub want-head : (getD ns layout.answer-kind 0 ≡ 1 → ⊥) → answer-head ns ≡ part ns 0 layout.want-width
   unfolding answer-head part if_then_else_
   want-head other = rw (ne-eqb (getD ns layout.answer-kind 0) 1 other)
 
@@ -121,7 +121,7 @@ module _ (ns : List ℕ) where
       let a = length-take (notes-end ns) ns in
       let b = length-take (ended ns) (drop layout.answer-endings ns) in
       rw (h, length-append) (omega arith))
-      (λ h. let a = length-take layout.want-length ns in rw h (omega arith))
+      (λ h. let a = length-take layout.want-width ns in rw h (omega arith))
 
   pub head-few : length (bytes-of (answer-head ns)) ≤ 10 * layout.answer-record
   head-few = let a = bytes-few (answer-head ns) in let b = head-long in omega arith

@@ -45,7 +45,7 @@ fn head_size(xs: &[u64; layout::ANSWER]) -> usize
         return longs_size(xs, 0, notes_end(xs))
             + longs_size(xs, layout::ANSWER_ENDINGS, endings_end(xs));
     }
-    longs_size(xs, 0, layout::WANT)
+    longs_size(xs, 0, layout::WANT_WIDTH)
 }
 
 fn write_head(out: &mut [u8], xs: &[u64; layout::ANSWER]) -> usize
@@ -57,7 +57,7 @@ fn write_head(out: &mut [u8], xs: &[u64; layout::ANSWER]) -> usize
         let place = write_longs(out, 0, xs, 0, notes_end(xs));
         return write_longs(out, place, xs, layout::ANSWER_ENDINGS, endings_end(xs));
     }
-    write_longs(out, 0, xs, 0, layout::WANT)
+    write_longs(out, 0, xs, 0, layout::WANT_WIDTH)
 }
 
 // How many bytes an answer takes.

@@ -180,9 +180,9 @@ module _ (node field from : ℕ) (state : State) (f : Fits state) where
   unfolding decision-of state-numbers
   want-record = let d = decision-of (wants node field from state) in state-behind d (none-noted d refl refl) (none-ended d refl refl)
 
-  want-length : length (decision-numbers (decision-of (wants node field from state))) ≡ answer-length
+  want-width : length (decision-numbers (decision-of (wants node field from state))) ≡ answer-length
   unfolding decision-of state-numbers
-  want-length = let d = decision-of (wants node field from state) in length-decision d (none-noted d refl refl) (none-ended d refl refl) (record-numbers-length state f)
+  want-width = let d = decision-of (wants node field from state) in length-decision d (none-noted d refl refl) (none-ended d refl refl) (record-numbers-length state f)
 
   want-numbers : (at (decision-numbers (decision-of (wants node field from state))) layout.answer-kind ≡ 2) × (at (decision-numbers (decision-of (wants node field from state))) layout.answer-want-node ≡ node) × (at (decision-numbers (decision-of (wants node field from state))) layout.answer-want-field ≡ field) × (at (decision-numbers (decision-of (wants node field from state))) layout.answer-want-from ≡ from)
   unfolding decision-numbers decision-of answer-numbers
@@ -217,7 +217,7 @@ answer-back (refused number item) f = refusal-back number item
 
 pub answer-numbers-length : (a : Answer) → Answer-fits a → length (decision-numbers (decision-of a)) ≡ answer-length
 answer-numbers-length (next x) f = next-length x f
-answer-numbers-length (wants node field from state) f = want-length node field from state f
+answer-numbers-length (wants node field from state) f = want-width node field from state f
 answer-numbers-length (refused number item) f = refusal-length number item
 
 -- THE BUFFER'S BEGINNING is what was written there.

@@ -290,8 +290,8 @@ answer-want-field = 2
 abbrev pub answer-want-from : ℕ
 answer-want-from = 3
 
-abbrev pub want-length : ℕ
-want-length = 4
+abbrev pub want-width : ℕ
+want-width = 4
 
 -- A refusal.
 abbrev pub answer-refusal-number : ℕ

@@ -197,7 +197,7 @@ pub const ANSWER_WANT_FIELD: usize = 2;
 
 pub const ANSWER_WANT_FROM: usize = 3;
 
-pub const WANT: usize = 4;
+pub const WANT_WIDTH: usize = 4;
 
 // A refusal.
 pub const ANSWER_REFUSAL_NUMBER: usize = 1;

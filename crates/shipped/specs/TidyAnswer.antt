@@ -61,7 +61,7 @@ abbrev some-endings : Stage
 some-endings = counted-rows layout.ending-width layout.endings layout.answer-ended
 
 abbrev no-rows : Stage
-no-rows = record { room = layout.answer-record - layout.want-length; shape = λ _. column (2 ^ 64) (layout.answer-record - layout.want-length) 0 }
+no-rows = record { room = layout.answer-record - layout.want-width; shape = λ _. column (2 ^ 64) (layout.answer-record - layout.want-width) 0 }
 
 run-last : (seen ns : List ℕ) → run .tidy ns ≡ true → staged (the-run ∷ []) seen .tidy (ns ++ []) ≡ true
 run-last seen ns t = stage-tidy the-run [] seen ns [] (run-exact .long ns t) t (no-stage-tidy _)
@@ -155,7 +155,7 @@ module _ (f : Workflow) (a : Accepted) (proper : Proper f (next a)) (below : all
 abbrev between : List ℕ
 between = 0 ∷ 0 ∷ 0 ∷ 0 ∷ 0 ∷ 0 ∷ 0 ∷ 0 ∷ 0 ∷ (flatMap note-numbers (padded layout.notes no-note []) ++ flatMap ending-numbers (padded layout.endings no-ending []))
 
-between-long : length between ≡ layout.answer-record - layout.want-length
+between-long : length between ≡ layout.answer-record - layout.want-width
 between-long =
     let a = flat-size note-numbers layout.notes length-note (padded layout.notes no-note []) (length-padded no-note [] layout.notes (omega arith)) in
     let b = flat-size ending-numbers layout.endings length-ending (padded layout.endings no-ending []) (length-padded no-ending [] layout.endings (omega arith)) in
@@ -167,7 +167,7 @@ between-zero =
     every-append (λ n. eqb n 0) (flatMap note-numbers (padded layout.notes no-note [])) (flatMap ending-numbers (padded layout.endings no-ending []))
     (past-zero note-numbers no-note note-blank layout.notes []) (past-zero ending-numbers no-ending ending-blank layout.endings [])
 
-between-tidy : column (2 ^ 64) (layout.answer-record - layout.want-length) 0 .tidy between ≡ true
+between-tidy : column (2 ^ 64) (layout.answer-record - layout.want-width) 0 .tidy between ≡ true
 unfolding column every
 between-tidy = join _ _ (eq-eqb _ _ between-long) (join _ _ refl (join _ _ refl between-zero))
 
@@ -185,5 +185,5 @@ module _ (f : Workflow) (node field from : ℕ) (s : State) (fits : Tidies f s) 
       let b = every-parts (λ n. ltb n (2 ^ 64)) between (record-numbers s ++ []) (want-below .1) in
       let t = tidies-tidy f s fits (every-parts (λ n. ltb n (2 ^ 64)) (record-numbers s) [] (b .1) .0) in
       rw want-laid
-      (stage-tidy (first-numbers layout.want-length) (no-rows ∷ the-run ∷ []) [] (2 ∷ node ∷ field ∷ from ∷ []) _ refl (numbers-tidy (2 ^ 64) layout.want-length (2 ∷ node ∷ field ∷ from ∷ []) refl (want-below .0))
+      (stage-tidy (first-numbers layout.want-width) (no-rows ∷ the-run ∷ []) [] (2 ∷ node ∷ field ∷ from ∷ []) _ refl (numbers-tidy (2 ^ 64) layout.want-width (2 ∷ node ∷ field ∷ from ∷ []) refl (want-below .0))
       (stage-tidy no-rows (the-run ∷ []) _ between _ between-long between-tidy (run-last _ (record-numbers s) t)))
