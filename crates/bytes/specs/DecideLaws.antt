@@ -2,11 +2,11 @@
 use mathlib.Core.Path.{_≡_, refl, sym, ap, _∙_}
 use mathlib.Core.Bool.{Bool, true, false, false≢true}
 use mathlib.Core.List.{List}
-use Prim.Native.Nat.{ℕ, _-_, _^_}
+use Prim.Native.Nat.{ℕ, _+_, _-_, _^_}
 use native.Mathlib.Omega.{arith}
 use lib.Dec.{eqb}
-use lib.ListN.{length}
-use lib.Seq.{take-length}
+use lib.ListN.{length, take, drop, length-append, length-drop}
+use lib.Seq.{take-length, length-take-le}
 use borrow.Author.Tests.{eqb-true, eq-eqb, ne-eqb}
 use Rattle.laws.specs.Bool.{if_then_else_, split, if-true, if-false}
 use Rattle.laws.specs.Splice.{splice, splice-all}
@@ -15,15 +15,18 @@ use Rattle.host.specs.Layout as layout
 use Rattle.host.specs.Write.{decision-numbers}
 use Rattle.host.specs.Host.{receipt, decided, answered, Full}
 use Rattle.codec.specs.declared.numbers.Place.{Place}
-use Rattle.codec.specs.Read.{bad}
+use Rattle.codec.specs.Read.{Read, bad}
 use Rattle.codec.specs.Numbers.{part, numbers-at, all-below}
-use Rattle.codec.specs.Stages.{numbers}
+use Rattle.codec.specs.Stages.{numbers, beside, widths, staged}
 use Rattle.codec.specs.Stored.{place-of, Stored}
+use Rattle.codec.specs.Exact.{Bytes}
 use Rattle.codec.specs.Parts.{part-below}
 use Rattle.bytes.specs.Event.{event}
-use Rattle.bytes.specs.Call.{call, call-on, sheet-in, without-sheet, run-in, numbers-in}
+use Rattle.bytes.specs.Call.{the-rest, call, call-on, sheet-in, without-sheet, run-in, numbers-in}
 use Rattle.bytes.specs.CallStored.{Call-stored, On-stored}
-use Rattle.bytes.specs.Boundary.{bad-bytes, no-item, Outcome, refused, whole, Decided, said, unread, on-numbers, decide, decide-on, told, call-bytes-on, is-said, said-in, Of-64-bits}
+use Rattle.bytes.specs.StagesLeft.{read-long}
+use Rattle.bytes.specs.CallLaws.{call-exact, call-on-exact}
+use Rattle.bytes.specs.Boundary.{bad-bytes, no-item, Outcome, refused, ended, whole, Decided, said, unread, on-numbers, decide, decide-on, told, call-bytes-on, is-said, said-in, Of-64-bits}
 use Rattle.bytes.specs.BoundaryLaws.{Whole}
 
 -- AN EVENT'S BYTES are read as numbers.
@@ -78,13 +81,47 @@ module _ (sheet call given array : List ℕ) (long : length array ≡ layout.ans
     says-numbers {d} e =
         split (eqb n layout.written)
         (λ h.
-            let o : d ≡ said its-numbers = e ∙ if-true _ _ _ (sym same ∙ h) in
-            let l : after ≡ splice array 0 its-numbers = left ∙ if-true _ _ _ (rw told at h) in
-            rw h (says-said array o long l (full (eqb-true n layout.written h))))
+        let o : d ≡ said its-numbers = e ∙ if-true _ _ _ (sym same ∙ h) in
+        let l : after ≡ splice array 0 its-numbers = left ∙ if-true _ _ _ (rw told at h) in
+        rw h (says-said array o long l (full (eqb-true n layout.written h))))
         (λ h.
-            let o : d ≡ unread = e ∙ if-false _ _ _ (sym same ∙ h) in
-            let l : after ≡ array = left ∙ if-false _ _ _ (rw told at h) in
-            rw (h, l) (says-unread array o))
+        let o : d ≡ unread = e ∙ if-false _ _ _ (sym same ∙ h) in
+        let l : after ≡ array = left ∙ if-false _ _ _ (rw told at h) in
+        rw (h, l) (says-unread array o))
+
+-- Nothing was read.
+pub ended-bad : (size : ℕ) {read : Read (List ℕ)} → read ≡ bad → ended size read ≡ bad
+unfolding ended
+ended-bad size e = rw e
+
+-- THE LENGTHS of what was read.
+call-width : call .width ≡ layout.call-has-record + sheet-length + the-rest .room
+unfolding call staged beside numbers widths
+call-width = refl
+
+on-width : call-on .width ≡ layout.call-has-record + the-rest .room
+unfolding call-on staged beside numbers widths
+on-width = refl
+
+without-long : (ns : List ℕ) → length ns ≡ call .width → length (without-sheet ns) ≡ call-on .width
+unfolding without-sheet
+without-long ns n =
+    let w = call-width in
+    let v = on-width in
+    let a = length-append (take layout.call-has-record ns) (drop (layout.call-has-record + sheet-length) ns) in
+    let b = length-take-le layout.call-has-record ns (omega arith) in
+    let c = length-drop (layout.call-has-record + sheet-length) ns in
+    omega arith
+
+parts-long : (ns : List ℕ) → length ns ≡ call-on .width → (length (numbers-in ns) ≡ layout.call-length) × (length (run-in ns) ≡ layout.record-length)
+unfolding numbers-in run-in
+parts-long ns n =
+    let w = on-width in
+    let a = length-append (take layout.call-sequence ns) (drop (layout.call-sequence + layout.record-length) ns) in
+    let b = length-take-le layout.call-sequence ns (omega arith) in
+    let c = length-drop (layout.call-sequence + layout.record-length) ns in
+    let d = length-drop layout.call-sequence ns in
+    (omega arith, length-take-le layout.record-length (drop layout.call-sequence ns) (omega arith))
 
 -- WHAT WAS READ: a call, and a call on a sheet in numbers.
 module _ (bytes : List ℕ) where
@@ -99,6 +136,16 @@ module _ (bytes : List ℕ) where
       let b = s .call-is (w .ns) (length bytes) (w .is) in
       let c = s .run-is (w .ns) (length bytes) (w .is) in
       rw (w .all, a, b, c)
+
+  pub call-lengths : {graph numbers given : List ℕ} (w : Whole (length bytes) (call .read bytes 0)) → Bytes bytes → Call-stored (call .read bytes 0) graph numbers given → (length numbers ≡ layout.call-length) × (length given ≡ layout.record-length)
+  call-lengths w good s =
+      let p = parts-long (without-sheet (w .ns)) (without-long (w .ns) (read-long call-exact good (w .is))) in
+      (ap length (s .call-is (w .ns) (length bytes) (w .is)) ∙ p .0, ap length (s .run-is (w .ns) (length bytes) (w .is)) ∙ p .1)
+
+  pub on-lengths : {numbers given : List ℕ} (w : Whole (length bytes) (call-on .read bytes 0)) → Bytes bytes → On-stored (call-on .read bytes 0) numbers given → (length numbers ≡ layout.call-length) × (length given ≡ layout.record-length)
+  on-lengths w good s =
+      let p = parts-long (w .ns) (read-long call-on-exact good (w .is)) in
+      (ap length (s .call-is (w .ns) (length bytes) (w .is)) ∙ p .0, ap length (s .run-is (w .ns) (length bytes) (w .is)) ∙ p .1)
 
   module _ (sheet : List ℕ) where
     pub on-unread : whole call-on bytes ≡ bad → decide-on sheet bytes ≡ unread

@@ -7,9 +7,10 @@ const ANSWER: usize = layout::ANSWER;
 // The run in an answer.
 const RUN: usize = layout::ANSWER_RECORD;
 
-// More bytes than a call can have, and than a run can.
+// More bytes than a call has.
 const ENOUGH: usize = 65536;
 
+// No run has more: a number has at most ten.
 const RUN_BYTES: usize = 10 * layout::RECORD;
 
 fn text(bytes: &[u8]) {
@@ -47,16 +48,16 @@ fn line(word: &[u8], xs: &[u64; ANSWER], first: usize, width: usize)
     numbers(xs, first, width);
 }
 
-// A line for each row, as many as a count says.
+// A line for each row, as many as a count says. No rows are more than the notes.
 fn rows(word: &[u8], xs: &[u64; ANSWER], first: usize, width: usize, count: u64)
     requires { ⌜ (first ≤ 4096) × (width ≤ 8) ⌝ }
 {
-    let mut i: usize = 0;
-    while i < 65 {
+    let mut place = first;
+    for i in 0..layout::NOTES {
         if (i as u64) < count {
-            line(word, xs, first + width * i, width);
+            line(word, xs, place, width);
         }
-        i += 1;
+        place += width;
     }
 }
 
@@ -64,15 +65,14 @@ fn rows(word: &[u8], xs: &[u64; ANSWER], first: usize, width: usize, count: u64)
 fn nodes(word: &[u8], xs: &[u64; ANSWER], first: usize, width: usize, lead: usize)
     requires { ⌜ (first ≤ 4096) × (width ≤ 8) × (lead ≤ 8) ⌝ }
 {
-    let mut i: usize = 0;
-    while i < layout::NODES {
-        let place = first + width * i;
+    let mut place = first;
+    for i in 0..layout::NODES {
         if at(xs, place + lead) != 0 {
             text(word);
             number(i as u64);
             numbers(xs, place, width);
         }
-        i += 1;
+        place += width;
     }
 }
 
@@ -86,21 +86,28 @@ fn digit(n: u8) -> u8 {
     b'?'
 }
 
-// The run's bytes, two digits each.
+// The first of some bytes, two digits each, and the end of the line.
+fn digits(bytes: &[u8; RUN_BYTES], size: usize)
+    requires { ⌜ size ≤ 9180 ⌝ }
+{
+    let mut out = [b'\n'; 2 * RUN_BYTES + 1];
+    let mut i: usize = 0;
+    while i < size {
+        out[2 * i] = digit(bytes[i] / 16);
+        out[2 * i + 1] = digit(bytes[i] % 16);
+        i += 1;
+    }
+    text(&out[..2 * size + 1]);
+}
+
+// The run's bytes.
 fn hexadecimal(xs: &[u64; ANSWER]) {
     let mut bytes = [0u8; RUN_BYTES];
     let size = bytes::run::run_size(xs, RUN);
     if size <= RUN_BYTES {
         bytes::run::write_run(&mut bytes, 0, xs, RUN);
-        let mut i: usize = 0;
-        while i < RUN_BYTES {
-            if i < size {
-                text(&[digit(bytes[i] / 16), digit(bytes[i] % 16)]);
-            }
-            i += 1;
-        }
+        digits(&bytes, size);
     }
-    text(b"\n");
 }
 
 fn run(xs: &[u64; ANSWER]) {
