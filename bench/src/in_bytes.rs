@@ -15,8 +15,9 @@ use crate::{after, geometric_mean, least};
 
 /// What is held to the limits.
 pub struct Measured {
-    /// The greatest ratio of a write or a read to plain Rust.
+    /// The greatest ratio of a write or a read to plain Rust, but of a run's read; and of that.
     pub greatest: f64,
+    pub run_read: f64,
     /// Geometric means of calls: library / plain behind the boundary and in place, whole and on a sheet.
     pub boundary: f64,
     pub in_place: f64,
@@ -101,16 +102,22 @@ fn show<I, O: Copy + Default + PartialEq + std::fmt::Debug>(
     library / plain
 }
 
-/// The parts of a call written and read. The greatest ratio.
-fn parts(name: &str, call: &Call, with_sheet: bool) -> f64 {
+/// The greatest ratio of a run's read, and of all else.
+#[derive(Default)]
+struct Greatest {
+    run_read: f64,
+    others: f64,
+}
+
+/// The parts of a call written and read.
+fn parts(name: &str, call: &Call, with_sheet: bool, greatest: &mut Greatest) {
     let asked = Asked::of(call).expect("a sheet with its form");
     let parts = Parts::of(call);
-    let mut greatest: f64 = 0.0;
     if with_sheet {
         let bytes = bytes::write_sheet(&parts.sheet).expect("a tidy sheet");
         let json = asked.sheet();
         let sheet = original::read_sheet(json);
-        greatest = greatest.max(show(
+        greatest.others = greatest.others.max(show(
             &format!("{name}, sheet written"),
             bytes.len(),
             Some((json.len(), &mut || {
@@ -120,7 +127,7 @@ fn parts(name: &str, call: &Call, with_sheet: bool) -> f64 {
             SHEET_BYTES,
             [raw::write_sheet, plain::write_sheet],
         ));
-        greatest = greatest.max(show(
+        greatest.others = greatest.others.max(show(
             &format!("{name}, sheet read"),
             bytes.len(),
             Some((json.len(), &mut || {
@@ -134,7 +141,7 @@ fn parts(name: &str, call: &Call, with_sheet: bool) -> f64 {
     if let (Some(run), Some(json)) = (&parts.run, asked.run()) {
         let bytes = bytes::write_run(run).expect("a tidy run");
         let state = original::read_run(json);
-        greatest = greatest.max(show(
+        greatest.others = greatest.others.max(show(
             &format!("{name}, run written"),
             bytes.len(),
             Some((json.len(), &mut || {
@@ -144,7 +151,7 @@ fn parts(name: &str, call: &Call, with_sheet: bool) -> f64 {
             ANSWER_BYTES,
             [raw::write_run, plain::write_run],
         ));
-        greatest = greatest.max(show(
+        greatest.run_read = greatest.run_read.max(show(
             &format!("{name}, run read"),
             bytes.len(),
             Some((json.len(), &mut || {
@@ -157,7 +164,7 @@ fn parts(name: &str, call: &Call, with_sheet: bool) -> f64 {
     }
     if with_sheet {
         let bytes = bytes::write_event(parts.event()[..].try_into().unwrap()).expect("it fits");
-        greatest = greatest.max(show(
+        greatest.others = greatest.others.max(show(
             &format!("{name}, event written"),
             bytes.len(),
             None,
@@ -165,7 +172,7 @@ fn parts(name: &str, call: &Call, with_sheet: bool) -> f64 {
             ANSWER_BYTES,
             [raw::write_event, plain::write_event],
         ));
-        greatest = greatest.max(show(
+        greatest.others = greatest.others.max(show(
             &format!("{name}, event read"),
             bytes.len(),
             None,
@@ -174,23 +181,23 @@ fn parts(name: &str, call: &Call, with_sheet: bool) -> f64 {
             [raw::read_event, plain::read_event],
         ));
     }
-    greatest
 }
 
-/// Sheets, runs and events. The greatest ratio.
-fn stored() -> f64 {
+/// Sheets, runs and events.
+fn stored() -> Greatest {
     println!("| What | Bytes | JSON, bytes | Original, ns | Plain Rust | Library | Original / library | Library / plain |");
     println!("|---|---|---|---|---|---|---|---|");
     let sheet = joint::sheet();
     let start = joint::call(&sheet, None, joint::start());
     let scheduled = after(&start);
     let result = joint::call(&sheet, Some(&scheduled), joint::result(0, 1, 1, 1));
-    let mut greatest = parts("Joint A", &result, true);
+    let mut greatest = Greatest::default();
+    parts("Joint A", &result, true, &mut greatest);
     let stored = joint::cases()
         .into_iter()
         .find(|case| case.name.contains("full store"));
     let stored = stored.expect("a full store").call;
-    greatest = greatest.max(parts("Joint A, a full store", &stored, false));
+    parts("Joint A, a full store", &stored, false, &mut greatest);
     let full = full::sheet(64);
     let start = Call {
         ceilings: CEILINGS,
@@ -201,7 +208,8 @@ fn stored() -> f64 {
         ceilings: CEILINGS,
         ..joint::call(&full, Some(&run), joint::result(0, 1, 1, 1))
     };
-    greatest.max(parts("64 nodes", &result, true))
+    parts("64 nodes", &result, true, &mut greatest);
+    greatest
 }
 
 /// A call in bytes: whole, or on a sheet in numbers. Times in nanoseconds.
@@ -347,7 +355,8 @@ pub fn measure(cases: &[(String, Call)], longest: &str) -> Measured {
     let others = shown.iter().filter(|it| it.name != longest);
     let ratios = others.flat_map(|it| [&it.whole, &it.on].map(to_boundary));
     let measured = Measured {
-        greatest,
+        greatest: greatest.others,
+        run_read: greatest.run_read,
         boundary: mean(|it| it.whole.library / it.whole.boundary),
         in_place: mean(|it| it.whole.library / it.whole.in_place),
         boundary_on: mean(|it| it.on.library / it.on.boundary),

@@ -296,6 +296,7 @@ fn check(verdicts: f64, measured: &Measured, bytes: &in_bytes::Measured) -> bool
         ("longest-to-original", measured.longest_to_original),
         ("large-copies", large as f64),
         ("bytes", bytes.greatest),
+        ("bytes-run-read", bytes.run_read),
         ("bytes-boundary", bytes.boundary),
         ("bytes-in-place", bytes.in_place),
         ("bytes-boundary-on", bytes.boundary_on),

@@ -98,34 +98,36 @@ struct Reader<'a> {
     at: usize,
 }
 
+/// What stands behind a first group that isn't the last: the number, and the place behind it. Out of line and on values, so that a
+/// number of one byte takes no call and the place stays in a register.
+#[inline(never)]
+fn following(bytes: &[u8], first: u8, start: usize) -> Option<(u64, usize)> {
+    let mut number = u64::from(first & 127);
+    let mut at = start;
+    for shift in (7..63).step_by(7) {
+        let byte = *bytes.get(at)?;
+        at += 1;
+        if byte == 0 {
+            return None;
+        }
+        number |= u64::from(byte & 127) << shift;
+        if byte < 128 {
+            return Some((number, at));
+        }
+    }
+    (*bytes.get(at)? == 1).then_some((number | 1 << 63, at + 1))
+}
+
 impl Reader<'_> {
     fn number(&mut self) -> Option<u64> {
         let first = *self.bytes.get(self.at)?;
-        self.at += 1;
-        match first < 128 {
-            true => Some(first.into()),
-            false => self.following(first - 128),
-        }
-    }
-
-    /// Behind a first group that isn't the last. Out of line, so that a number of one byte takes no call.
-    #[inline(never)]
-    fn following(&mut self, first: u8) -> Option<u64> {
-        let mut number = u64::from(first);
-        for shift in (7..63).step_by(7) {
-            let byte = *self.bytes.get(self.at)?;
+        if first < 128 {
             self.at += 1;
-            if byte == 0 {
-                return None;
-            }
-            number |= u64::from(byte & 127) << shift;
-            if byte < 128 {
-                return Some(number);
-            }
+            return Some(first.into());
         }
-        let last = *self.bytes.get(self.at)?;
-        self.at += 1;
-        (last == 1).then_some(number | 1 << 63)
+        let (number, at) = following(self.bytes, first, self.at + 1)?;
+        self.at = at;
+        Some(number)
     }
 
     fn within(&mut self, most: u64) -> Option<u64> {
@@ -158,12 +160,19 @@ fn sheet_is_tidy(sheet: &[u32; SHEET]) -> bool {
     })
 }
 
-/// The numbers that are written, in pieces.
-fn sheet_pieces(sheet: &[u32; SHEET]) -> impl Iterator<Item = &[u32]> {
-    let columns = COLUMNS
-        .iter()
-        .map(|&(first, count)| &sheet[first..][..sheet[count] as usize]);
-    std::iter::once(&sheet[..SHEET_NODE_KIND]).chain(columns)
+/// The used slots of a column.
+fn used(sheet: &[u32; SHEET], (first, count): (usize, usize)) -> &[u32] {
+    &sheet[first..][..sheet[count] as usize]
+}
+
+fn small_sizes(numbers: &[u32]) -> usize {
+    numbers.iter().map(|number| size((*number).into())).sum()
+}
+
+fn put_small(writer: &mut Writer, numbers: &[u32]) {
+    for number in numbers {
+        writer.number((*number).into());
+    }
 }
 
 pub fn write_sheet(sheet: &[u32], buffer: &mut [u8]) -> u64 {
@@ -173,21 +182,18 @@ pub fn write_sheet(sheet: &[u32], buffer: &mut [u8]) -> u64 {
     if !sheet_is_tidy(sheet) {
         return refused(20);
     }
-    let mut all = 0;
-    for piece in sheet_pieces(sheet) {
-        all += piece
-            .iter()
-            .map(|number| size((*number).into()))
-            .sum::<usize>();
+    let head = &sheet[..SHEET_NODE_KIND];
+    let mut all = small_sizes(head);
+    for column in COLUMNS {
+        all += small_sizes(used(sheet, column));
     }
     let Some(bytes) = buffer.get_mut(..all) else {
         return refused(SHORT_BYTES);
     };
     let mut writer = Writer { bytes, at: 0 };
-    for piece in sheet_pieces(sheet) {
-        for number in piece {
-            writer.number((*number).into());
-        }
+    put_small(&mut writer, head);
+    for column in COLUMNS {
+        put_small(&mut writer, used(sheet, column));
     }
     said(0, all)
 }
