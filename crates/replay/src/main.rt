@@ -1,6 +1,8 @@
 // Replays the recorded answers of the original (its stdin: oracle/sample/README.md, docs/NUMBERS.md): each call goes
 // through the boundary, and all the numbers of its answer are compared with the recorded ones.
 
+mod coded;
+
 // What the reader of the lines is at: the number it is in, and the place in the array that it reads.
 pub struct Reader {
     pub number: u64,
@@ -15,6 +17,8 @@ pub struct Reader {
     pub next: u64,
     pub wants: u64,
     pub refused: u64,
+    pub written: u64,
+    pub in_bytes: u64,
 }
 
 const KIND: u32 = 0;
@@ -118,6 +122,19 @@ fn counted(r: Reader, kind: u64) -> Reader {
     next
 }
 
+// One call more in bytes, where it can be written.
+fn in_bytes(r: Reader, judged: u32) -> Reader {
+    let mut next = r;
+    if judged == 0 {
+        return next;
+    }
+    next.written = std::num::wrapping_add_u64(r.written, 1);
+    if judged == 1 {
+        next.in_bytes = std::num::wrapping_add_u64(r.in_bytes, 1);
+    }
+    next
+}
+
 // The call that was read, made and compared.
 fn judged(
     r: Reader,
@@ -128,7 +145,10 @@ fn judged(
 ) -> Reader {
     let mut made = [0u64; ANSWER];
     let receipt = host::kuxhoveza_transition(sheet, SHEET, call, record, &mut made);
-    let mut next = counted(r, answer[0]);
+    let mut next = in_bytes(
+        counted(r, answer[0]),
+        coded::judged(sheet, call, record, answer),
+    );
     if receipt != 0 {
         return next;
     }
@@ -265,6 +285,8 @@ fn main() {
         next: 0,
         wants: 0,
         refused: 0,
+        written: 0,
+        in_bytes: 0,
     };
     // A proved loop has to end: no input is as long as this.
     let mut turns: u64 = 1_000_000;
@@ -280,4 +302,6 @@ fn main() {
     say(r.wants, b" wants, ");
     say(r.refused, b" refusals; ");
     say(r.agree, b" agree\n");
+    say(r.written, b" of them in bytes; ");
+    say(r.in_bytes, b" agree\n");
 }

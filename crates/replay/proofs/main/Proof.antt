@@ -3,10 +3,10 @@ use Rattle.replay.proofs.main.Statement.{statement}
 use Rattle.replay.proofs.main.Tie as tie
 
 abbrev Inv-loop : tie.InvT-loop
-Inv-loop sheet₀ call₀ record₀ answer₀ r₀ turns₀ t7 t8 t9 t10 t11 sheet call «record» answer r turns = Unit {0}
+Inv-loop sheet₀ call₀ record₀ answer₀ r₀ turns₀ t7 t8 t9 t10 t11 t12 t13 sheet call «record» answer r turns = Unit {0}
 
 abbrev μ-loop : tie.MeasureT-loop
-μ-loop sheet₀ call₀ record₀ answer₀ r₀ turns₀ t7 t8 t9 t10 t11 sheet call «record» answer r turns = turns
+μ-loop sheet₀ call₀ record₀ answer₀ r₀ turns₀ t7 t8 t9 t10 t11 t12 t13 sheet call «record» answer r turns = turns
 
 loop-holds : tie.Need-loop-holds Inv-loop μ-loop
 loop-holds c = search needs
@@ -59,6 +59,18 @@ slice-aggregate-say-5 c = search needs
 say-requires-5 : tie.Need-say-requires-5 Inv-loop μ-loop
 say-requires-5 c κs = search needs
 
+slice-aggregate-say-6 : tie.Need-slice-aggregate-say-6 Inv-loop μ-loop
+slice-aggregate-say-6 c = search needs
+
+say-requires-6 : tie.Need-say-requires-6 Inv-loop μ-loop
+say-requires-6 c κs = search needs
+
+slice-aggregate-say-7 : tie.Need-slice-aggregate-say-7 Inv-loop μ-loop
+slice-aggregate-say-7 c = search needs
+
+say-requires-7 : tie.Need-say-requires-7 Inv-loop μ-loop
+say-requires-7 c κs = search needs
+
 returns : tie.Need-returns Inv-loop μ-loop
 returns c = search needs
 
@@ -85,4 +97,8 @@ main-spec =
     say-requires-4
     slice-aggregate-say-5
     say-requires-5
+    slice-aggregate-say-6
+    say-requires-6
+    slice-aggregate-say-7
+    say-requires-7
     returns)
