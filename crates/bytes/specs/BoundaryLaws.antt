@@ -122,6 +122,9 @@ module _ (shape : Shape) (exact : Exact shape) (bytes zeros after : List ℕ) wh
       let n = exact .long (w .ns) (exact .only bytes (w .ns) 0 (length bytes) good (w .is) .tidy) in
       s .is (w .ns) (length bytes) (w .is) ∙ splice-all zeros (w .ns) (n ∙ sym long)
 
+  pub tidy-read : Whole (length bytes) (shape .read bytes 0) → Bytes bytes → length zeros ≡ shape .width → Stored (shape .read bytes 0) zeros 0 after → shape .tidy after ≡ true
+  tidy-read w good long s = ap (shape .tidy) (all-read w good long s) ∙ exact .only bytes (w .ns) 0 (length bytes) good (w .is) .tidy
+
 module _ (fits : List ℕ → Bool) {read : Read (List ℕ)} where
   pub taken-bad : read ≡ bad → taken fits read ≡ refused bad-bytes no-item
   unfolding taken

@@ -10,6 +10,7 @@ pub mod CallStored
 pub mod SheetLaws
 pub mod StagesLoops
 pub mod RunLaws
+pub mod RunUsed
 pub mod AnswerLaws
 pub mod StagesLeft
 pub mod CallLaws

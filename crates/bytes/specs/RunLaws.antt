@@ -192,7 +192,7 @@ module _ (xs : List ℕ) (at : ℕ) (room : at + layout.record-length ≤ length
   head-count = getD-part xs at (at + layout.record-signals) layout.record-stored 0 (omega arith)
 
   -- TIDY.
-  parts-neat : run .tidy (part xs at (at + layout.record-length)) ≡ (numbers (2 ^ 64) layout.record-signals .tidy head and (stored-signals .shape head .tidy signals and (numbers (2 ^ 64) layout.nodes .tidy visits and (slots (2 ^ 64) 1 0 layout.nodes .tidy streaks and (slots (2 ^ 64) 2 3 layout.nodes .tidy results and true)))))
+  pub parts-neat : run .tidy (part xs at (at + layout.record-length)) ≡ (numbers (2 ^ 64) layout.record-signals .tidy head and (stored-signals .shape head .tidy signals and (numbers (2 ^ 64) layout.nodes .tidy visits and (slots (2 ^ 64) 1 0 layout.nodes .tidy streaks and (slots (2 ^ 64) 2 3 layout.nodes .tidy results and true)))))
   unfolding run
   parts-neat =
       let a = stages-neat xs single-numbers from-signals [] at (at + layout.record-signals) head-exact refl in

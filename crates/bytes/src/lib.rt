@@ -13,6 +13,7 @@ use crate::event::event_fits;
 use crate::run::read_run;
 use crate::run::run_size;
 use crate::run::run_tidy;
+use crate::run::tidy_fits;
 use crate::run::write_run;
 use crate::sheet::read_sheet;
 use crate::sheet::sheet_size;
@@ -180,7 +181,7 @@ pub extern "C" fn kuxhoveza_read_run(bytes: &[u8], run: &mut [u64]) -> u64
     if !ends(place, bytes) {
         return refused(BAD_BYTES);
     }
-    if !run_fits(&numbers) {
+    if !tidy_fits(&numbers) {
         return refused(BAD_BYTES);
     }
     copy_longs(run, &numbers);

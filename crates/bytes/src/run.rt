@@ -9,14 +9,20 @@ use codec::slots::slots_size;
 use codec::slots::slots_tidy;
 use codec::slots::write_slots;
 use host::layout;
+use host::read::Used;
+use host::read::record_fits;
 ghost use mathlib.Core.Path.{_≡_};
-ghost use Prim.Native.Nat.{_+_, _*_, _≤_, min};
+ghost use mathlib.Core.Bool.{true};
+ghost use Prim.Native.Nat.{_+_, _*_, _≤_, _<_, min};
 ghost use lib.ListN.{length, replicate};
 ghost use Rattle.laws.specs.Splice.{splice};
-ghost use Rattle.host.specs.Layout.{record-length, record-signals, signal-width, store};
+ghost use Rattle.host.specs.Layout.{record-length, record-signals, signal-width, store, nodes};
+ghost use Rattle.host.specs.Read.{record-fits};
+ghost use Rattle.host.specs.ByCount.{Nodes-past};
 ghost use Rattle.codec.specs.Numbers.{bytes-of, part};
 ghost use Rattle.codec.specs.Stored.{place-of, Stored};
 ghost use Rattle.bytes.specs.Run.{run};
+ghost use Rattle.bytes.specs.RunUsed.{unused};
 
 // Before and after the lead of a streak, which is its count; and of a result, which is its output's tag.
 const STREAK_BEFORE: usize = 1;
@@ -114,6 +120,46 @@ pub fn run_tidy(xs: &[u64], at: usize) -> bool
             RESULT_AFTER,
             layout::NODES,
         )
+}
+
+// A node has no visits, no streak and no result.
+fn unused(xs: &[u64], n: usize) -> bool
+    requires { ⌜ (length (now xs) ≡ record-length) × (n < nodes) ⌝ }
+    ensures { λ r. ⌜ r ≡ unused (now (xs .entry)) n ⌝ }
+{
+    (xs[layout::RECORD_VISITS + n] == 0)
+        & (xs[layout::RECORD_STREAKS + layout::STREAK_WIDTH * n + STREAK_BEFORE] == 0)
+        & (xs[layout::RECORD_RESULTS + layout::RESULT_WIDTH * n + RESULT_BEFORE] == 0)
+}
+
+// The nodes up to the last that is used.
+fn used_nodes(xs: &[u64]) -> usize
+    requires { ⌜ (length (now xs) ≡ record-length) × (run .tidy (now xs) ≡ true) ⌝ }
+    ensures { λ r. ⌜ Nodes-past (now (xs .entry)) r ⌝ }
+{
+    let mut rows = layout::NODES;
+    while 0 < rows {
+        if !unused(xs, rows - 1) {
+            return rows;
+        }
+        rows -= 1;
+    }
+    rows
+}
+
+// The fields of a tidy record can hold its numbers. Only what is used is tested: what was read from bytes is tidy.
+pub fn tidy_fits(xs: &[u64]) -> bool
+    requires { ⌜ (length (now xs) ≡ record-length) × (run .tidy (now xs) ≡ true) ⌝ }
+    ensures { λ r. ⌜ r ≡ record-fits (now (xs .entry)) ⌝ }
+{
+    let nodes = used_nodes(xs);
+    record_fits(
+        xs,
+        Used {
+            signals: xs[layout::RECORD_STORED] as usize,
+            nodes,
+        },
+    )
 }
 
 // How many bytes it takes.

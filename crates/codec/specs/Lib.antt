@@ -22,5 +22,6 @@ pub mod Loops
 pub mod ShapesLoops
 pub mod ColumnsLoops
 pub mod SlotsLaws
+pub mod TidyLaws
 pub mod SlotSteps
 pub mod SlotsLoops

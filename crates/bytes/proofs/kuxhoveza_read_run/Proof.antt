@@ -8,7 +8,7 @@ use Rattle.host.specs.Read.{record-fits}
 use Rattle.codec.specs.Exact.{Bytes}
 use Rattle.bytes.specs.Run.{run}
 use Rattle.bytes.specs.RunLaws.{run-exact, run-width}
-use Rattle.bytes.specs.BoundaryLaws.{refused-by, done-by, not-whole, is-whole, all-read, taken-bad, taken-unfit, taken-done, run-room, run-taken}
+use Rattle.bytes.specs.BoundaryLaws.{refused-by, done-by, not-whole, is-whole, all-read, tidy-read, taken-bad, taken-unfit, taken-done, run-room, run-taken}
 use borrow.Author.Needs.{needs}
 use Rattle.bytes.proofs.kuxhoveza_read_run.Statement.{statement}
 use Rattle.bytes.proofs.kuxhoveza_read_run.Tie as tie
@@ -31,6 +31,19 @@ returns-2 c =
     let b = refused-by (a .run .now) o in
     (c .refused .ensures ∙ b .0, b .1)
 
+tidy-fits-requires : tie.Need-tidy-fits-requires
+tidy-fits-requires c κs =
+    let i = c .before in
+    let e = i .before in
+    let r = e .before in
+    let s = r .before .before in
+    let bytes = s .before .before .before .args .bytes .now in
+    let good : Bytes bytes = record { each = λ n. omega (arith, s .before .before .shared-slice-known .given n) } in
+    let f = sym (e .ends .ensures) ∙ not-false _ (i .if2 .left) in
+    let w = is-whole _ (run .read bytes 0) (r .read-run .ensures .0) f in
+    let stored = r .read-run .ensures .1 in
+    (stored .long, tidy-read run run-exact bytes _ _ w good (sym run-width) stored)
+
 returns-3 : tie.Need-returns-3
 returns-3 c =
     let t = c .before .before in
@@ -44,7 +57,7 @@ returns-3 c =
     let f = sym (e .ends .ensures) ∙ not-false _ (i .if2 .left) in
     let w = is-whole _ (run .read bytes 0) (r .read-run .ensures .0) f in
     let n = all-read run run-exact bytes _ _ w good (sym run-width) (r .read-run .ensures .1) in
-    let u = ap record-fits (sym n) ∙ sym (t .run-fits .ensures) ∙ not-true _ (c .before .if3 .taken) in
+    let u = ap record-fits (sym n) ∙ sym (t .tidy-fits .ensures) ∙ not-true _ (c .before .if3 .taken) in
     let o = run-taken bytes _ (s .if1 .left) ∙ taken-unfit _ (w .all) u in
     let b = refused-by (a .run .now) o in
     (c .refused2 .ensures ∙ b .0, b .1)
@@ -64,7 +77,7 @@ returns-4 c =
     let f = sym (e .ends .ensures) ∙ not-false _ (i .if2 .left) in
     let w = is-whole _ (run .read bytes 0) (r .read-run .ensures .0) f in
     let n = all-read run run-exact bytes _ _ w good (sym run-width) (r .read-run .ensures .1) in
-    let u = ap record-fits (sym n) ∙ sym (t .run-fits .ensures) ∙ not-false _ (j .if3 .left) in
+    let u = ap record-fits (sym n) ∙ sym (t .tidy-fits .ensures) ∙ not-false _ (j .if3 .left) in
     let o = run-taken bytes _ (s .if1 .left) ∙ taken-done _ (w .all) u in
     let b = done-by (a .run .now) o in
     (c .done .ensures ∙ b .0, k .copy-longs .ensures ∙ ap (λ (ns : List ℕ). splice (a .run .now) 0 ns) n ∙ b .1)
@@ -80,7 +93,7 @@ kuxhoveza-read-run-spec =
     (λ c κs. search needs)
     returns-2
     (λ c. search needs)
-    (λ c κs. search needs)
+    tidy-fits-requires
     (λ c κs. search needs)
     returns-3
     (λ c. search needs)
