@@ -15,9 +15,8 @@ use crate::{after, geometric_mean, least};
 
 /// What is held to the limits.
 pub struct Measured {
-    /// The greatest ratio of a write or a read to plain Rust, but of a run's read; and of that.
+    /// The greatest ratio of a write or a read to plain Rust.
     pub greatest: f64,
-    pub run_read: f64,
     /// Geometric means of calls: library / plain behind the boundary and in place, whole and on a sheet.
     pub boundary: f64,
     pub in_place: f64,
@@ -25,6 +24,8 @@ pub struct Measured {
     pub in_place_on: f64,
     /// The greatest ratio to plain behind the boundary, but the longest call's.
     pub greatest_call: f64,
+    /// The greatest ratio of any call to the plain reader and writer around the library's call in numbers.
+    pub greatest_around: f64,
 }
 
 /// The parts of a call in numbers.
@@ -102,22 +103,16 @@ fn show<I, O: Copy + Default + PartialEq + std::fmt::Debug>(
     library / plain
 }
 
-/// The greatest ratio of a run's read, and of all else.
-#[derive(Default)]
-struct Greatest {
-    run_read: f64,
-    others: f64,
-}
-
-/// The parts of a call written and read.
-fn parts(name: &str, call: &Call, with_sheet: bool, greatest: &mut Greatest) {
+/// The parts of a call written and read. Tells the greatest ratio.
+fn parts(name: &str, call: &Call, with_sheet: bool) -> f64 {
+    let mut greatest: f64 = 0.0;
     let asked = Asked::of(call).expect("a sheet with its form");
     let parts = Parts::of(call);
     if with_sheet {
         let bytes = bytes::write_sheet(&parts.sheet).expect("a tidy sheet");
         let json = asked.sheet();
         let sheet = original::read_sheet(json);
-        greatest.others = greatest.others.max(show(
+        greatest = greatest.max(show(
             &format!("{name}, sheet written"),
             bytes.len(),
             Some((json.len(), &mut || {
@@ -127,7 +122,7 @@ fn parts(name: &str, call: &Call, with_sheet: bool, greatest: &mut Greatest) {
             SHEET_BYTES,
             [raw::write_sheet, plain::write_sheet],
         ));
-        greatest.others = greatest.others.max(show(
+        greatest = greatest.max(show(
             &format!("{name}, sheet read"),
             bytes.len(),
             Some((json.len(), &mut || {
@@ -141,7 +136,7 @@ fn parts(name: &str, call: &Call, with_sheet: bool, greatest: &mut Greatest) {
     if let (Some(run), Some(json)) = (&parts.run, asked.run()) {
         let bytes = bytes::write_run(run).expect("a tidy run");
         let state = original::read_run(json);
-        greatest.others = greatest.others.max(show(
+        greatest = greatest.max(show(
             &format!("{name}, run written"),
             bytes.len(),
             Some((json.len(), &mut || {
@@ -151,7 +146,7 @@ fn parts(name: &str, call: &Call, with_sheet: bool, greatest: &mut Greatest) {
             ANSWER_BYTES,
             [raw::write_run, plain::write_run],
         ));
-        greatest.run_read = greatest.run_read.max(show(
+        greatest = greatest.max(show(
             &format!("{name}, run read"),
             bytes.len(),
             Some((json.len(), &mut || {
@@ -164,7 +159,7 @@ fn parts(name: &str, call: &Call, with_sheet: bool, greatest: &mut Greatest) {
     }
     if with_sheet {
         let bytes = bytes::write_event(parts.event()[..].try_into().unwrap()).expect("it fits");
-        greatest.others = greatest.others.max(show(
+        greatest = greatest.max(show(
             &format!("{name}, event written"),
             bytes.len(),
             None,
@@ -172,7 +167,7 @@ fn parts(name: &str, call: &Call, with_sheet: bool, greatest: &mut Greatest) {
             ANSWER_BYTES,
             [raw::write_event, plain::write_event],
         ));
-        greatest.others = greatest.others.max(show(
+        greatest = greatest.max(show(
             &format!("{name}, event read"),
             bytes.len(),
             None,
@@ -181,23 +176,23 @@ fn parts(name: &str, call: &Call, with_sheet: bool, greatest: &mut Greatest) {
             [raw::read_event, plain::read_event],
         ));
     }
+    greatest
 }
 
-/// Sheets, runs and events.
-fn stored() -> Greatest {
+/// Sheets, runs and events. Tells the greatest ratio.
+fn stored() -> f64 {
     println!("| What | Bytes | JSON, bytes | Original, ns | Plain Rust | Library | Original / library | Library / plain |");
     println!("|---|---|---|---|---|---|---|---|");
     let sheet = joint::sheet();
     let start = joint::call(&sheet, None, joint::start());
     let scheduled = after(&start);
     let result = joint::call(&sheet, Some(&scheduled), joint::result(0, 1, 1, 1));
-    let mut greatest = Greatest::default();
-    parts("Joint A", &result, true, &mut greatest);
+    let first = parts("Joint A", &result, true);
     let stored = joint::cases()
         .into_iter()
         .find(|case| case.name.contains("full store"));
     let stored = stored.expect("a full store").call;
-    parts("Joint A, a full store", &stored, false, &mut greatest);
+    let second = parts("Joint A, a full store", &stored, false);
     let full = full::sheet(64);
     let start = Call {
         ceilings: CEILINGS,
@@ -208,13 +203,14 @@ fn stored() -> Greatest {
         ceilings: CEILINGS,
         ..joint::call(&full, Some(&run), joint::result(0, 1, 1, 1))
     };
-    parts("64 nodes", &result, true, &mut greatest);
-    greatest
+    first.max(second).max(parts("64 nodes", &result, true))
 }
 
 /// A call in bytes: whole, or on a sheet in numbers. Times in nanoseconds.
 struct Times {
-    /// Plain Rust behind the boundary of numbers, and with the sheet read in place.
+    /// The plain reader and writer around the library's call in numbers; around plain Rust behind the boundary of numbers,
+    /// and with the sheet read in place.
+    around: f64,
     boundary: f64,
     in_place: f64,
     library: f64,
@@ -224,13 +220,15 @@ impl Times {
     /// What a row shows of it, to the library's time of the same call in numbers.
     fn row(&self, numbers: f64) -> String {
         let Times {
+            around,
             boundary,
             in_place,
             library,
         } = self;
         format!(
-            "{numbers:.0} | {boundary:.0} | {in_place:.0} | {library:.0} | {:.2} | {:.2} | {:.2} |",
+            "{numbers:.0} | {around:.0} | {boundary:.0} | {in_place:.0} | {library:.0} | {:.2} | {:.2} | {:.2} | {:.2} |",
             library / numbers,
+            library / around,
             library / boundary,
             library / in_place,
         )
@@ -254,8 +252,8 @@ fn shown<'a>(name: &'a str, call: &Call) -> Shown<'a> {
     let sheet = &parts.sheet[..];
     let run = parts.run.unwrap_or([0; RECORD]);
     let mut numbers = [0; ANSWER];
-    let mut buffers = [[0; ANSWER_BYTES]; 6];
-    let [a, b, c, d, e, f] = &mut buffers;
+    let mut buffers = [[0; ANSWER_BYTES]; 8];
+    let [a, b, c, d, e, f, g, h] = &mut buffers;
     let structs = boundary::transition;
     let in_place = boundary::transition_in_place;
     let said = raw::call(whole, a);
@@ -265,6 +263,8 @@ fn shown<'a>(name: &'a str, call: &Call) -> Shown<'a> {
         raw::call_on(sheet, rest, d),
         plain::call_on_through(structs, sheet, rest, e),
         plain::call_on_through(in_place, sheet, rest, f),
+        plain::call_through(raw::transition, whole, g),
+        plain::call_on_through(raw::transition, sheet, rest, h),
     ] {
         assert_eq!(other, said, "{name}");
     }
@@ -277,7 +277,7 @@ fn shown<'a>(name: &'a str, call: &Call) -> Shown<'a> {
         let notes = decision.diagnostics.iter().map(|it| it.details.len());
         decision.snapshot.len() + commands.chain(notes).sum::<usize>()
     });
-    let [a, b, c, d, e, f] = &mut buffers;
+    let [a, b, c, d, e, f, g, h] = &mut buffers;
     let times = least([
         &mut || {
             black_box(black_box(&asked).transition().is_ok());
@@ -297,6 +297,10 @@ fn shown<'a>(name: &'a str, call: &Call) -> Shown<'a> {
             black_box(plain::call_through(in_place, whole, black_box(c)));
         },
         &mut || {
+            let whole = black_box(whole);
+            black_box(plain::call_through(raw::transition, whole, black_box(g)));
+        },
+        &mut || {
             let (sheet, rest) = black_box((sheet, rest));
             black_box(raw::call_on(sheet, rest, black_box(d)));
         },
@@ -308,9 +312,19 @@ fn shown<'a>(name: &'a str, call: &Call) -> Shown<'a> {
             let (sheet, rest) = black_box((sheet, rest));
             black_box(plain::call_on_through(in_place, sheet, rest, black_box(f)));
         },
+        &mut || {
+            let (sheet, rest) = black_box((sheet, rest));
+            black_box(plain::call_on_through(
+                raw::transition,
+                sheet,
+                rest,
+                black_box(h),
+            ));
+        },
     ]);
-    let [original, numbers, whole_times @ .., d, e, f] = times;
-    let of = |[library, boundary, in_place]: [f64; 3]| Times {
+    let [original, numbers, whole_times @ .., d, e, f, h] = times;
+    let of = |[library, boundary, in_place, around]: [f64; 4]| Times {
+        around,
         boundary,
         in_place,
         library,
@@ -321,11 +335,11 @@ fn shown<'a>(name: &'a str, call: &Call) -> Shown<'a> {
         original,
         numbers,
         whole: of(whole_times),
-        on: of([d, e, f]),
+        on: of([d, e, f, h]),
     }
 }
 
-const TIMES: &str = "Library, numbers | Plain, boundary | Plain, in place | Library | Library / numbers | Library / plain, boundary | Library / plain, in place |";
+const TIMES: &str = "Library, numbers | Plain around it | Plain, boundary | Plain, in place | Library | Library / numbers | Library / plain around | Library / plain, boundary | Library / plain, in place |";
 
 /// Shows the tables; the cases of calls are those of the numbers, of which one is the longest.
 pub fn measure(cases: &[(String, Call)], longest: &str) -> Measured {
@@ -338,7 +352,7 @@ pub fn measure(cases: &[(String, Call)], longest: &str) -> Measured {
         println!("| {name} | {whole} | {rest} | {out} | {json_in} | {json_out} |");
     }
     println!("\n| Whole call | Original, ns | Original / library | {TIMES}");
-    println!("|---|---|---|---|---|---|---|---|---|---|");
+    println!("|---|---|---|---|---|---|---|---|---|---|---|---|");
     for it in &shown {
         let original = it.original;
         let times = original / it.whole.library;
@@ -346,7 +360,7 @@ pub fn measure(cases: &[(String, Call)], longest: &str) -> Measured {
         println!("| {} | {original:.0} | {times:.1} | {row}", it.name);
     }
     println!("\n| Call on a sheet | {TIMES}");
-    println!("|---|---|---|---|---|---|---|---|");
+    println!("|---|---|---|---|---|---|---|---|---|---|");
     for it in &shown {
         println!("| {} | {}", it.name, it.on.row(it.numbers));
     }
@@ -354,14 +368,17 @@ pub fn measure(cases: &[(String, Call)], longest: &str) -> Measured {
     let to_boundary = |times: &Times| times.library / times.boundary;
     let others = shown.iter().filter(|it| it.name != longest);
     let ratios = others.flat_map(|it| [&it.whole, &it.on].map(to_boundary));
+    let around = shown
+        .iter()
+        .flat_map(|it| [&it.whole, &it.on].map(|times| times.library / times.around));
     let measured = Measured {
-        greatest: greatest.others,
-        run_read: greatest.run_read,
+        greatest,
         boundary: mean(|it| it.whole.library / it.whole.boundary),
         in_place: mean(|it| it.whole.library / it.whole.in_place),
         boundary_on: mean(|it| it.on.library / it.on.boundary),
         in_place_on: mean(|it| it.on.library / it.on.in_place),
         greatest_call: ratios.fold(0.0, f64::max),
+        greatest_around: around.fold(0.0, f64::max),
     };
     println!(
         "\nGeometric mean of {} calls: library / plain, boundary {:.3} whole, {:.3} on a sheet; library / plain, in place {:.3} whole, {:.3} on a sheet",

@@ -296,12 +296,12 @@ fn check(verdicts: f64, measured: &Measured, bytes: &in_bytes::Measured) -> bool
         ("longest-to-original", measured.longest_to_original),
         ("large-copies", large as f64),
         ("bytes", bytes.greatest),
-        ("bytes-run-read", bytes.run_read),
         ("bytes-boundary", bytes.boundary),
         ("bytes-in-place", bytes.in_place),
         ("bytes-boundary-on", bytes.boundary_on),
         ("bytes-in-place-on", bytes.in_place_on),
         ("bytes-greatest-call", bytes.greatest_call),
+        ("bytes-around", bytes.greatest_around),
     ];
     let mut within = true;
     for (name, number) in held {

@@ -16,9 +16,9 @@ use workflow::node_at;
 use workflow::node_of;
 use workflow::route_at;
 ghost use mathlib.Core.Path.{_≡_};
-ghost use Prim.Native.Nat.{_+_, _≤_};
+ghost use Prim.Native.Nat.{_+_, _≤_, _<_};
 ghost use lib.Dec.{leb};
-ghost use Rattle.workflow.specs.Layout.{numbers};
+ghost use Rattle.workflow.specs.Layout.{numbers, route-room};
 ghost use Rattle.workflow.specs.View.{workflow, column-blank, node-table, route-table, limit-table, action-table, declared-table, table-blank, blank};
 ghost use Rattle.graph.specs.Form.{counts-fit, formed-node, routes-at, formed-route, formed-limit, formed-declared, ascends, form};
 ghost use Rattle.graph.specs.Verdict.{rule};
@@ -122,7 +122,9 @@ enum Sort {
     Declared,
 }
 
+// No sort has room for more rows than the routes.
 fn formed_row(w: &[u32; NUMBERS], sort: Sort, row: usize) -> bool
+    requires { ⌜ row < route-room ⌝ }
     ensures { λ r. ⌜ r ≡ formed-row (now (w .entry)) sort row ⌝ }
 {
     match sort {
@@ -135,6 +137,7 @@ fn formed_row(w: &[u32; NUMBERS], sort: Sort, row: usize) -> bool
 }
 
 fn formed_rows(w: &[u32; NUMBERS], sort: Sort, count: usize) -> bool
+    requires { ⌜ count ≤ route-room ⌝ }
     ensures { λ r. ⌜ r ≡ formed-rows (now (w .entry)) sort count ⌝ }
 {
     let mut i: usize = 0;

@@ -133,18 +133,21 @@ pub record Tells (made : Made) : Type 0 where
   pub refusal : (ns : List ℕ) → answer-to made ≡ said ns → at ns layout.answer-kind ≡ 3 → (number made ≡ at ns layout.answer-refusal-number) × (0 < number made) × (number made < bad-bytes)
   pub written : (ns : List ℕ) → answer-to made ≡ said ns → (at ns layout.answer-kind ≡ 3 → ⊥) → number made ≡ layout.written
 
--- Of an accepted call, with ns the numbers of its answer: its bytes, read as an answer, are these numbers; and the run's bytes in them, read as a run, are those of the
--- answer's record, and fit.
-pub record Reads-back (made : Made) (ns : List ℕ) : Type 0 where
+-- Of a call that is answered with a next record or a want, with ns the numbers of its answer: its bytes, read as an answer, are these numbers.
+abbrev pub Reads-back : Made → Type 0
+Reads-back made = (ns : List ℕ) → answer-to made ≡ said ns → (at ns layout.answer-kind ≡ 3 → ⊥) → answer-shape (at ns layout.answer-kind) .read (answer-in made) 0 ≡ got ns (length (answer-in made))
+
+-- Of an accepted call the run's bytes in them, read as a run, are the numbers of the answer's record, and fit.
+pub record Run-back (made : Made) (ns : List ℕ) : Type 0 where
   pub accepted : Accepted
   pub is-next : answer-of-numbers ns ≡ next accepted
-  pub answer : answer-shape 1 .read (answer-in made) 0 ≡ got ns (length (answer-in made))
   pub run : run-shape .read (run-in-answer (answer-in made)) 0 ≡ got (drop layout.answer-record ns) (length (run-in-answer (answer-in made)))
   pub fits : record-fits (drop layout.answer-record ns) ≡ true
   pub same : record-of (drop layout.answer-record ns) ≡ accepted .state
 
-abbrev pub Kept : Made → Type 0
-Kept made = (ns : List ℕ) → answer-to made ≡ said ns → at ns layout.answer-kind ≡ 1 → Reads-back made ns
+pub record Kept (made : Made) : Type 0 where
+  pub answer : Reads-back made
+  pub run : (ns : List ℕ) → answer-to made ≡ said ns → at ns layout.answer-kind ≡ 1 → Run-back made ns
 
 -- And of a call whose numbers behind the run are those of an event, a count of mapping answers and these, each such that its field can hold it.
 abbrev pub mark-of : Standing → ℕ

@@ -1,4 +1,4 @@
--- The bytes of an accepted answer: where its run begins, and what they are read as.
+-- The bytes of an answer: what they are read as, how many they are, and where the run of a next record begins.
 use mathlib.Core.Path.{_≡_, refl, sym, ap, _∙_}
 use mathlib.Core.Bool.{true}
 use mathlib.Core.List.{List, [], _++_, append-assoc, append-nil}
@@ -18,7 +18,7 @@ use Rattle.codec.specs.NumbersLaws.{numbers-exact}
 use Rattle.codec.specs.ColumnsLaws.{tidy-column, bytes-few}
 use Rattle.bytes.specs.Run.{run}
 use Rattle.bytes.specs.RunLaws.{run-exact, run-width, run-few}
-use Rattle.bytes.specs.Answer.{next, answer}
+use Rattle.bytes.specs.Answer.{next, want, answer}
 use Rattle.shipped.specs.InBytes.{behind, run-in-answer}
 
 -- Behind what stands at a place.
@@ -37,7 +37,23 @@ all-back shape exact ns tidy =
     let e : 0 + length b ≡ length b = omega arith in
     rw e at (exact .back b [] ns 0 tidy (sym (append-nil b)))
 
--- What its numbers are: the first 13, and by their counts notes and endings; and behind them the run.
+-- The run's numbers stand last, and their bytes are few.
+module _ (ns : List ℕ) (long : length ns ≡ layout.answer-length) where
+  run-last : (take (run .width) (drop 468 ns) ≡ drop 468 ns) × (drop (run .width) (drop 468 ns) ≡ [])
+  run-last =
+      let n = length-drop 468 ns in
+      let w = run-width in
+      let h : length (drop 468 ns) ≤ run .width = omega arith in
+      (take-all (run .width) (drop 468 ns) h, drop-of-length-le (drop 468 ns) h)
+
+  run-bytes-few : length (bytes-of (run .fields (drop 468 ns))) ≤ 10 * layout.record-length
+  unfolding part
+  run-bytes-few =
+      let n = length-drop 468 ns in
+      let e : part ns 468 (468 + layout.record-length) ≡ drop 468 ns = take-all layout.record-length (drop 468 ns) (omega arith) in
+      rw e at (run-few ns 468 (omega arith))
+
+-- OF A NEXT RECORD. What its numbers are: the first 13, and by their counts notes and endings; and behind them the run.
 pub record Parts (ns : List ℕ) : Type 0 where
   pub head : List ℕ
   pub rows : List ℕ
@@ -47,6 +63,7 @@ pub record Parts (ns : List ℕ) : Type 0 where
   pub rows-few : length rows ≤ layout.note-width * layout.notes + layout.ending-width * layout.endings
   pub rows-below : all-below (2 ^ 64) rows ≡ true
   pub run-tidy : run .tidy (drop layout.answer-record ns) ≡ true
+  pub run-few : length (bytes-of (run .fields (drop layout.answer-record ns))) ≤ 10 * layout.record-length
   pub fields : answer 1 .fields ns ≡ head ++ (rows ++ run .fields (drop layout.answer-record ns))
 
 module _ (ns : List ℕ) (long : length ns ≡ layout.answer-length) (tidy : answer 1 .tidy ns ≡ true) where
@@ -90,13 +107,8 @@ module _ (ns : List ℕ) (long : length ns ≡ layout.answer-length) (tidy : ans
   unfolding answer next staged beside numbers column if_then_else_
   all-fields = refl
 
-  run-last : (take (run .width) behind-all ≡ drop 468 ns) × (drop (run .width) behind-all ≡ [])
-  run-last =
-      let e : behind-all ≡ drop 468 ns = drop-drop 130 325 (drop 13 ns) ∙ drop-drop 455 13 ns in
-      let n = length-drop 468 ns in
-      let w = run-width in
-      let h : length (drop 468 ns) ≤ run .width = omega arith in
-      (rw e (take-all (run .width) (drop 468 ns) h), rw e (drop-of-length-le (drop 468 ns) h))
+  all-behind : behind-all ≡ drop 468 ns
+  all-behind = drop-drop 130 325 (drop 13 ns) ∙ drop-drop 455 13 ns
 
   pub parts : Parts ns
   unfolding numbers
@@ -113,7 +125,8 @@ module _ (ns : List ℕ) (long : length ns ≡ layout.answer-length) (tidy : ans
       let p : length (take noted notes) ≡ noted = length-take-le noted notes (omega arith) in
       let q : length (take ended endings) ≡ ended = length-take-le ended endings (omega arith) in
       let e : getD (head ++ notes) 12 0 ≡ getD head 12 0 = List·getD-append head notes 0 12 (omega arith) in
-      let r = run-last in
+      let w = all-behind in
+      let r = run-last ns long in
       record {
         head = head;
         rows = take noted notes ++ take ended endings;
@@ -122,8 +135,9 @@ module _ (ns : List ℕ) (long : length ns ≡ layout.answer-length) (tidy : ans
         rows-long = rw (length-append, p, q, e);
         rows-few = rw (length-append, p, q) (omega arith);
         rows-below = every-append _ (take noted notes) (take ended endings) (a .below) (b .below);
-        run-tidy = rw (r .0) at (t .of-run);
-        fields = all-fields ∙ rw (r .0, r .1, append-nil) (ap (λ (x : List ℕ). head ++ x) (sym (append-assoc (take noted notes) (take ended endings) (run .fields (drop 468 ns)))));
+        run-tidy = rw (w, r .0) at (t .of-run);
+        run-few = run-bytes-few ns long;
+        fields = all-fields ∙ rw (w, r .0, r .1, append-nil) (ap (λ (x : List ℕ). head ++ x) (sym (append-assoc (take noted notes) (take ended endings) (run .fields (drop 468 ns)))));
       }
 
 -- ITS BYTES. The run's are found in them.
@@ -151,19 +165,27 @@ module _ (ns : List ℕ) (p : Parts ns) where
       rw (a, b) (past its-bytes i (bytes-of (p .rows)) run-bytes d)
 
   -- There are few.
-  run-part : (468 + 918 ≤ length ns) × (part ns layout.answer-record (layout.answer-record + layout.record-length) ≡ drop layout.answer-record ns)
-  unfolding part
-  run-part =
-      let l = run-exact .long (drop layout.answer-record ns) (p .run-tidy) in
-      let w = run-width in
-      let d = length-drop layout.answer-record ns in
-      (omega arith, take-all layout.record-length (drop layout.answer-record ns) (omega arith))
-
   pub answer-few : length its-bytes < 2 ^ 32
   answer-few =
       let a = bytes-few (p .head) in
       let b = bytes-few (p .rows) in
       let n = p .head-long in
       let m = p .rows-few in
-      let r = rw (run-part .1) at (run-few ns layout.answer-record (run-part .0)) in
+      let r = p .run-few in
       rw (bytes-are, length-append, length-append) (omega arith)
+
+-- OF A WANT: four numbers and the run, and there are few.
+module _ (ns : List ℕ) (long : length ns ≡ layout.answer-length) where
+  want-fields : answer 2 .fields ns ≡ take 4 ns ++ (take 0 (take 464 (drop 4 ns)) ++ (run .fields (take (run .width) (drop 464 (drop 4 ns))) ++ drop (run .width) (drop 464 (drop 4 ns))))
+  unfolding answer want staged beside numbers column if_then_else_
+  want-fields = refl
+
+  pub want-few : length (bytes-of (answer 2 .fields ns)) < 2 ^ 32
+  want-few =
+      let w = drop-drop 464 4 ns in
+      let r = run-last ns long in
+      let n = length-take-le 4 ns (omega arith) in
+      let a = bytes-few (take 4 ns) in
+      let b = run-bytes-few ns long in
+      let e : answer 2 .fields ns ≡ take 4 ns ++ run .fields (drop 468 ns) = want-fields ∙ rw (w, r .0, r .1, append-nil) in
+      rw (e, bytes-append (take 4 ns) (run .fields (drop 468 ns)), length-append) (omega arith)

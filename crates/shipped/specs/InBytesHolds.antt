@@ -23,6 +23,7 @@ use Rattle.host.specs.Write.{decision-numbers}
 use Rattle.host.specs.ReadAnswer.{answer-of-numbers}
 use Rattle.host.specs.Host.{receipt, decided, answered}
 use Rattle.host.specs.AnswerBack.{answer-numbers-length, splice-begins, answered-begins}
+use Rattle.codec.specs.Read.{got}
 use Rattle.codec.specs.Numbers.{bytes-of, all-below}
 use Rattle.bytes.specs.Sheet.{sheet as sheet-shape}
 use Rattle.bytes.specs.Run.{run as run-shape}
@@ -36,10 +37,10 @@ use Rattle.shipped.specs.Shipped as shipped
 use Rattle.shipped.specs.Refusals.{Known-answer}
 use Rattle.shipped.specs.OneCall.{kind-of, Record-back, Told, told, known, fits, single}
 use Rattle.shipped.specs.Holds.{shipped-holds, shipped-ordered, shipped-proper}
-use Rattle.shipped.specs.TidyAnswer.{next-tidy}
+use Rattle.shipped.specs.TidyAnswer.{next-tidy, want-tidy}
 use Rattle.shipped.specs.TidySheet.{sheet-below}
-use Rattle.shipped.specs.InBytes.{Made, came-to, told-in, answer-to, accepts, answer-in, run-in-answer, run-bytes, standing, Gets, Follows, Ran, numbers-of, call-numbers, with-entry, entries, number, Tells, Reads-back, Kept, Right}
-use Rattle.shipped.specs.InBytesAnswer.{all-back, Parts, parts, run-found, answer-few}
+use Rattle.shipped.specs.InBytes.{Made, came-to, told-in, answer-to, accepts, answer-in, run-in-answer, run-bytes, standing, Gets, Follows, Ran, numbers-of, call-numbers, with-entry, entries, number, Tells, Run-back, Kept, Right}
+use Rattle.shipped.specs.InBytesAnswer.{all-back, Parts, parts, run-found, answer-few, want-few}
 use Rattle.shipped.specs.InBytesCall.{Same, Got-numbers, sheet-there, numbers-got, never-said, Answered, answered-by}
 use Rattle.shipped.specs.InBytesTaken.{taken}
 
@@ -54,17 +55,17 @@ heard room (said ns) ds e =
     split (eqb (at ns layout.answer-kind) 3) (λ t. rw t at e)
     (λ t. split (ltb room (length (bytes-of (answer-shape (at ns layout.answer-kind) .fields ns)))) (λ u. never-said (rw (t, u) at e)) (λ u. rw (t, u) at e))
 
-module _ (room : ℕ) (ds : List ℕ) (kind : at ds layout.answer-kind ≡ 1) where
+module _ (room : ℕ) (ds : List ℕ) (other : at ds layout.answer-kind ≡ 3 → ⊥) where
   abbrev its-bytes : List ℕ
-  its-bytes = bytes-of (answer-shape 1 .fields ds)
+  its-bytes = bytes-of (answer-shape (at ds layout.answer-kind) .fields ds)
 
   fitting : told-in room (said ds) ≡ said ds → ltb room (length its-bytes) ≡ false
   unfolding told-in if_then_else_
-  fitting e = split (ltb room (length its-bytes)) (λ u. never-said (rw (kind, u) at e)) (λ u. u)
+  fitting e = split (ltb room (length its-bytes)) (λ u. never-said (rw (ne-eqb (at ds layout.answer-kind) 3 other, u) at e)) (λ u. u)
 
   told-done : ltb room (length its-bytes) ≡ false → told-of room (said ds) ≡ done (length its-bytes) its-bytes
   unfolding told-of into if_then_else_
-  told-done u = rw (kind, u)
+  told-done u = rw (ne-eqb (at ds layout.answer-kind) 3 other, u)
 
 -- what is returned and left tells the bytes
 told-bytes : (bytes buffer : List ℕ) → length bytes < 2 ^ 32 → take (returned-by (done (length bytes) bytes) / 2 ^ 32) (left (done (length bytes) bytes) buffer) ≡ bytes
@@ -105,20 +106,31 @@ refusal-numbers a ns e known k =
     let f : refused (at ns layout.answer-refusal-number) (at ns layout.answer-refusal-item) ≡ a = rw k at e in
     rw (← f) at known
 
--- THE NUMBERS OF AN ACCEPTED ANSWER.
+-- THE NUMBERS OF AN ANSWER that has bytes: they are tidy, so that they read back, and their bytes are few.
+record Written-numbers (ns : List ℕ) : Type 0 where
+  tidy : answer-shape (at ns layout.answer-kind) .tidy ns ≡ true
+  few : length (bytes-of (answer-shape (at ns layout.answer-kind) .fields ns)) < 2 ^ 32
+
+written-numbers : (f : Workflow) (a : Answer) (ns : List ℕ) → ns ≡ decision-numbers (decision-of a) → Answer-fits a → Proper f a → at ns layout.answer-kind ≡ kind-of a → (at ns layout.answer-kind ≡ 3 → ⊥) → all-below (2 ^ 64) ns ≡ true → Written-numbers ns
+written-numbers f (next x) ns e t p k other below =
+    let tidy : answer-shape 1 .tidy ns ≡ true = rw e (next-tidy f x p (rw e at below)) in
+    record { tidy = rw k tidy; few = rw k (answer-few ns (parts ns (rw e (answer-numbers-length (next x) t)) tidy)) }
+written-numbers f (wants n i j w) ns e t p k other below =
+    record { tidy = rw k (rw e (want-tidy f n i j w p (rw e at below))); few = rw k (want-few ns (rw e (answer-numbers-length (wants n i j w) t))) }
+written-numbers f (refused n i) ns e t p k other below = absurd (other k)
+
+-- Those of an accepted one.
 record Next-numbers (ns : List ℕ) : Type 0 where
-  tidy : answer-shape 1 .tidy ns ≡ true
   long : length ns ≡ layout.answer-length
   accepted : Accepted
   is-next : answer-of-numbers ns ≡ next accepted
   fits : record-fits (drop layout.answer-record ns) ≡ true
   same : record-of (drop layout.answer-record ns) ≡ accepted .state
 
-next-numbers : (f : Workflow) (a : Answer) (ns : List ℕ) → ns ≡ decision-numbers (decision-of a) → Answer-fits a → Proper f a → at ns layout.answer-kind ≡ kind-of a → Record-back a (drop layout.answer-record ns) → answer-of-numbers ns ≡ a → at ns layout.answer-kind ≡ 1 → all-below (2 ^ 64) ns ≡ true → Next-numbers ns
-next-numbers f (next x) ns e t p k b s one below =
-    record { tidy = rw e (next-tidy f x p (rw e at below)); long = rw e (answer-numbers-length (next x) t); accepted = x; is-next = s; fits = b .fits; same = b .same }
-next-numbers f (wants n i j w) ns e t p k b s one below = absurd (omega (arith, k, one))
-next-numbers f (refused n i) ns e t p k b s one below = absurd (omega (arith, k, one))
+next-numbers : (a : Answer) (ns : List ℕ) → ns ≡ decision-numbers (decision-of a) → Answer-fits a → at ns layout.answer-kind ≡ kind-of a → Record-back a (drop layout.answer-record ns) → answer-of-numbers ns ≡ a → at ns layout.answer-kind ≡ 1 → Next-numbers ns
+next-numbers (next x) ns e t k b s one = record { long = rw e (answer-numbers-length (next x) t); accepted = x; is-next = s; fits = b .fits; same = b .same }
+next-numbers (wants n i j w) ns e t k b s one = absurd (omega (arith, k, one))
+next-numbers (refused n i) ns e t k b s one = absurd (omega (arith, k, one))
 
 -- A CALL IN NUMBERS, with a buffer that has room.
 unfoldable blank : List ℕ
@@ -178,12 +190,16 @@ module _ (sheet : List ℕ) (tidy : sheet-shape .tidy sheet ≡ true) where
     unfolding decided
     begins = answered-begins sheet sheet-length (numbers-in ns) (run-in ns) blank in-blank its-fits
 
-    its-next : at its-numbers layout.answer-kind ≡ 1 → all-below (2 ^ 64) its-numbers ≡ true → Next-numbers its-numbers
+    its-written : (at its-numbers layout.answer-kind ≡ 3 → ⊥) → all-below (2 ^ 64) its-numbers ≡ true → Written-numbers its-numbers
     unfolding decided
-    its-next one below =
+    its-written other below =
+        written-numbers (workflow sheet) its-answer its-numbers refl its-fits (single sheet sheet-length (numbers-in ns) (run-in ns) blank small in-blank .proper) (rw begins at (its-told .kind)) other below
+
+    its-next : at its-numbers layout.answer-kind ≡ 1 → Next-numbers its-numbers
+    unfolding decided
+    its-next one =
         let t = its-told in
-        next-numbers (workflow sheet) its-answer its-numbers refl its-fits (single sheet sheet-length (numbers-in ns) (run-in ns) blank small in-blank .proper)
-        (rw begins at (t .kind)) (rw begins at (t .back)) (rw begins at (t .said)) one below
+        next-numbers its-answer its-numbers refl its-fits (rw begins at (t .kind)) (rw begins at (t .back)) (rw begins at (t .said)) one
 
     its-refusal : at its-numbers layout.answer-kind ≡ 3 → (0 < at its-numbers layout.answer-refusal-number) × (at its-numbers layout.answer-refusal-number < bad-bytes)
     its-refusal = refusal-numbers its-answer its-numbers (rw begins at (its-told .said)) (known sheet sheet-length (numbers-in ns) (run-in ns) blank small in-blank)
@@ -210,7 +226,7 @@ module _ (sheet : List ℕ) (tidy : sheet-shape .tidy sheet ≡ true) where
           ran = rw e (so-far .ran);
           same = rw e (so-far .same);
           stands = rw e (so-far .stands);
-          kept = ((λ ns f _. never-said (sym e ∙ f)), so-far .kept);
+          kept = (record { answer = λ ns f _. never-said (sym e ∙ f); run = λ ns f _. never-said (sym e ∙ f) }, so-far .kept);
           tells = (
             record {
               none = λ _. rw (follows .returned-is) (tells-none (length (made .buffer)) (decide (made .bytes)) e);
@@ -242,36 +258,54 @@ module _ (sheet : List ℕ) (tidy : sheet-shape .tidy sheet ≡ true) where
       written-is : shipped.answer-in (numbered ns .after) ≡ ds
       written-is = begins ns (answered-so .received) ∙ sym numbers-are
 
-      -- accepted
-      module _ (one : at ds layout.answer-kind ≡ 1) where
-        next-here : Next-numbers ds
-        next-here = rw numbers-are (its-next ns (answered-so .received) (rw numbers-are at one) (rw numbers-are at (follows .of-64-bits .each ds decided-so)))
+      -- its bytes
+      module _ (other : at ds layout.answer-kind ≡ 3 → ⊥) where
+        written-here : Written-numbers ds
+        written-here = rw numbers-are (its-written ns (answered-so .received) (rw numbers-are at other) (rw numbers-are at (follows .of-64-bits .each ds decided-so)))
 
-        its-parts : Parts ds
-        its-parts = parts ds (next-here .long) (next-here .tidy)
-
-        came-done : came-to made ≡ done (length (its-bytes (length (made .buffer)) ds one)) (its-bytes (length (made .buffer)) ds one)
+        came-done : came-to made ≡ done (length (its-bytes (length (made .buffer)) ds other)) (its-bytes (length (made .buffer)) ds other)
         came-done =
             let room = length (made .buffer) in
-            rw decided-so (told-done room ds one (fitting room ds one (rw decided-so at e)))
+            rw decided-so (told-done room ds other (fitting room ds other (rw decided-so at e)))
 
-        bytes-there : answer-in made ≡ bytes-of (answer-shape 1 .fields ds)
-        bytes-there = rw (follows .returned-is, follows .after-is, came-done) (told-bytes (bytes-of (answer-shape 1 .fields ds)) (made .buffer) (answer-few ds its-parts))
+        bytes-there : answer-in made ≡ bytes-of (answer-shape (at ds layout.answer-kind) .fields ds)
+        bytes-there =
+            rw (follows .returned-is, follows .after-is, came-done) (told-bytes (bytes-of (answer-shape (at ds layout.answer-kind) .fields ds)) (made .buffer) (written-here .few))
+
+        reads-back : answer-shape (at ds layout.answer-kind) .read (answer-in made) 0 ≡ got ds (length (answer-in made))
+        reads-back = rw bytes-there (all-back (answer-shape (at ds layout.answer-kind)) (answer-exact (at ds layout.answer-kind)) ds (written-here .tidy))
+
+      -- accepted
+      module _ (one : at ds layout.answer-kind ≡ 1) where
+        no-refusal : at ds layout.answer-kind ≡ 3 → ⊥
+        no-refusal three = omega arith
+
+        next-here : Next-numbers ds
+        next-here = rw numbers-are (its-next ns (answered-so .received) (rw numbers-are at one))
+
+        its-parts : Parts ds
+        its-parts = parts ds (next-here .long) (rw one at (written-here no-refusal .tidy))
 
         run-there : run-in-answer (answer-in made) ≡ bytes-of (run-shape .fields (drop layout.answer-record ds))
-        run-there = rw bytes-there (run-found ds its-parts)
+        run-there = rw (bytes-there no-refusal, one) (run-found ds its-parts)
 
-        reads-back : Reads-back made ds
-        reads-back =
+        run-back : Run-back made ds
+        run-back =
             let n = next-here in
             record {
               accepted = n .accepted;
               is-next = n .is-next;
-              answer = rw bytes-there (all-back (answer-shape 1) (answer-exact 1) ds (n .tidy));
               run = rw run-there (all-back run-shape run-exact (drop layout.answer-record ds) (its-parts .run-tidy));
               fits = n .fits;
               same = n .same;
             }
+
+      kept-so : Kept made
+      kept-so =
+          record {
+            answer = λ ks f other. let x : ds ≡ ks = said-same (sym e ∙ f) in rw (← x) (reads-back (λ t. other (rw (← x) t)));
+            run = λ ks f one. let x : ds ≡ ks = said-same (sym e ∙ f) in rw (← x) (run-back (rw x one));
+          }
 
       -- what its number tells
       refused-so : at ds layout.answer-kind ≡ 3 → (0 < at ds layout.answer-refusal-number) × (at ds layout.answer-refusal-number < bad-bytes)
@@ -310,7 +344,7 @@ module _ (sheet : List ℕ) (tidy : sheet-shape .tidy sheet ≡ true) where
             ran = rw (e, call-is) (follows-numbers ns (answered-so .received) (all-numbered before) g, so-far .ran);
             same = rw (e, call-is, written-is, so-far .same);
             stands = rw (e, call-is, written-is) stands-then;
-            kept = ((λ ks f one. let x : ds ≡ ks = said-same (sym e ∙ f) in rw (← x) (reads-back (rw x one))), so-far .kept);
+            kept = (kept-so, so-far .kept);
             tells = (told-so, so-far .tells);
           }
 
@@ -338,7 +372,7 @@ module _ (sheet : List ℕ) (tidy : sheet-shape .tidy sheet ≡ true) where
   pub all-told : (h : List Made) → Ran sheet h → All Tells h
   all-told h ran = reads h ran .tells
 
-  -- What is kept of an accepted call reads back.
+  -- What is written of an answer reads back, and of an accepted one the run in it.
   pub all-kept : (h : List Made) → Ran sheet h → All Kept h
   all-kept h ran = reads h ran .kept
 

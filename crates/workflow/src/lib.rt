@@ -4,7 +4,8 @@ pub mod layout;
 
 use crate::layout::NUMBERS;
 ghost use mathlib.Core.Path.{_≡_};
-ghost use Prim.Native.Nat.{min};
+ghost use Prim.Native.Nat.{min, _<_};
+ghost use Rattle.workflow.specs.Layout.{route-room, limit-room};
 ghost use Rattle.workflow.specs.View.{workflow, no-node, node-at, route-at, limit-at, action-at, declared-at};
 ghost use Rattle.workflow.specs.Lookup.{found, is-0-2, node-of, policy-of, are, route-of, limit-of, declares};
 ghost use Rattle.workflow.specs.RowLaws.{Columns, find-row};
@@ -74,37 +75,27 @@ pub fn node_at(w: &[u32; NUMBERS], i: usize) -> Node
     no_node()
 }
 
+// Routes and limits are read in loops over all of them, so a row that there is no room for isn't tested here.
+
 pub fn route_at(w: &[u32; NUMBERS], i: usize) -> Route
+    requires { ⌜ i < route-room ⌝ }
     ensures { λ r. ⌜ r ≡ route-at (now (w .entry)) i ⌝ }
 {
-    if i < layout::ROUTES {
-        return Route {
-            node: w[layout::ROUTE_NODE + i],
-            outcome: w[layout::ROUTE_OUTCOME + i],
-            target: w[layout::ROUTE_TARGET + i],
-        };
-    }
     Route {
-        node: 0,
-        outcome: 0,
-        target: 0,
+        node: w[layout::ROUTE_NODE + i],
+        outcome: w[layout::ROUTE_OUTCOME + i],
+        target: w[layout::ROUTE_TARGET + i],
     }
 }
 
 pub fn limit_at(w: &[u32; NUMBERS], i: usize) -> Limit
+    requires { ⌜ i < limit-room ⌝ }
     ensures { λ r. ⌜ r ≡ limit-at (now (w .entry)) i ⌝ }
 {
-    if i < layout::LIMITS {
-        return Limit {
-            node: w[layout::LIMIT_NODE + i],
-            outcome: w[layout::LIMIT_OUTCOME + i],
-            limit: w[layout::LIMIT_LIMIT + i],
-        };
-    }
     Limit {
-        node: 0,
-        outcome: 0,
-        limit: 0,
+        node: w[layout::LIMIT_NODE + i],
+        outcome: w[layout::LIMIT_OUTCOME + i],
+        limit: w[layout::LIMIT_LIMIT + i],
     }
 }
 
