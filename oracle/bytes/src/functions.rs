@@ -114,10 +114,16 @@ pub fn call_on(transition: Transition, sheet: &[u32], bytes: &[u8], buffer: &mut
     }
 }
 
-fn answered(transition: Transition, sheet: &[u32], call: &Call, buffer: &mut [u8]) -> u64 {
+/// The answer's numbers to a call that was read, on its sheet.
+pub fn answer(transition: Transition, sheet: &[u32], call: &Call) -> [u64; ANSWER] {
     let mut answer = [0; ANSWER];
     let receipt = transition(sheet, &call.call, &call.record, &mut answer);
     assert_eq!(receipt as usize, WRITTEN, "every number fits its field");
+    answer
+}
+
+fn answered(transition: Transition, sheet: &[u32], call: &Call, buffer: &mut [u8]) -> u64 {
+    let answer = answer(transition, sheet, call);
     if answer[ANSWER_KIND] == REFUSAL as u64 {
         let number = answer[ANSWER_REFUSAL_NUMBER] as usize;
         return said(number, answer[ANSWER_REFUSAL_ITEM]);

@@ -1,6 +1,11 @@
-//! Sheets with every row used, and such that a rule refuses.
+//! Sheets with every row used, and such that a rule refuses; a run with every slot used.
 
-use calls::{Ceilings, Node, Route, Rows, Workflow};
+use calls::{
+    BufferedSignal, Call, Ceilings, ErrorInfo, Event, Node, NodeResult, Output, Position, Route,
+    Rows, State, Streak, Workflow, MOST, NODES, NONE, STORE,
+};
+
+use crate::joint;
 
 /// Under these the sheets are accepted, or refused by the rule that is named.
 pub const CEILINGS: Ceilings = Ceilings {
@@ -115,4 +120,82 @@ pub fn refused() -> Vec<(u32, Workflow)> {
             }
         }),
     ]
+}
+
+/// Nodes that await a signal, one after the other and around, each with a limit of 5 on received; one in the middle ends.
+fn ring() -> Workflow {
+    const END: u32 = NODES as u32 / 2;
+    let mut nodes = [Node {
+        kind: 2,
+        has_limits: 1,
+        ..Node::default()
+    }; NODES];
+    nodes[END as usize] = Node {
+        kind: 3,
+        ..Node::default()
+    };
+    let waiting: Vec<u32> = (0..NODES as u32).filter(|node| *node != END).collect();
+    let next = waiting.iter().cycle().skip(1);
+    let routes = waiting.iter().zip(next);
+    let routes: Vec<_> = routes
+        .flat_map(|(&node, &next)| [(node, 1, next), (node, 3, END)])
+        .collect();
+    let limits: Vec<_> = waiting.iter().map(|&node| (node, 1, 5)).collect();
+    let rows = Rows {
+        nodes: &nodes,
+        routes: &routes,
+        limits: &limits,
+        ..Rows::default()
+    };
+    Workflow::of(1000, 10000, &rows)
+}
+
+/// A noted event at a run with every slot used: a full store, and at each node visits, a result and, but at the end, a streak. Nearly all
+/// numbers are the largest that the run check takes.
+pub fn noted() -> Call {
+    let sheet = ring();
+    let error = ErrorInfo {
+        code: 65535,
+        node: NONE,
+        detail: u32::MAX,
+    };
+    let signal = BufferedSignal {
+        sequence: MOST,
+        event_id: u32::MAX,
+        signal: 255,
+        outcome: NONE,
+        data: u32::MAX,
+    };
+    let result = NodeResult {
+        visit: u32::MAX,
+        outcome: 255,
+        output: Output::Error(error),
+    };
+    let streak = |node: Node| Streak {
+        outcome: node.has_limits,
+        count: 5 * node.has_limits,
+    };
+    let state = State {
+        status: 2,
+        activations: u32::MAX,
+        last_sequence: 1 << 62,
+        position: Position {
+            node: NODES as u32 - 1,
+            visit: u32::MAX,
+        },
+        signal_count: STORE as u32,
+        signals: [signal; STORE],
+        visits: [u32::MAX; NODES],
+        streaks: sheet.nodes.map(streak),
+        results: [result; NODES],
+        ..State::fresh(u32::MAX)
+    };
+    let event = Event {
+        kind: 5,
+        accepted_at: MOST,
+        ..Event::default()
+    };
+    let mut call = joint::call(&sheet, Some(&state), event);
+    call.ceilings = CEILINGS;
+    call
 }

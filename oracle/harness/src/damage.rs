@@ -49,6 +49,11 @@ impl Damage {
         }
     }
 
+    /// What counts call it.
+    pub fn key(self) -> String {
+        format!("{KEYS}{}", self.text())
+    }
+
     /// The bytes damaged so, at random; another input to join them with.
     pub fn at_random(self, rng: &mut Rng, bytes: &[u8], other: &[u8]) -> Vec<u8> {
         let place = rng.below(bytes.len());
@@ -89,6 +94,15 @@ impl Damage {
             }
         }
     }
+}
+
+/// What all these keys begin with.
+pub const KEYS: &str = "damaged: ";
+
+/// The keys that must be reached.
+pub fn required() -> impl Iterator<Item = String> {
+    let all = Damage::AT_RANDOM.into_iter().chain([Damage::Counted]);
+    all.map(|damage| format!("{}, bad", damage.key()))
 }
 
 /// Small ones and edges more often.
@@ -162,6 +176,7 @@ pub fn every(bytes: &[u8], others: u8, mut take: impl FnMut(Damage, &[u8])) {
 }
 
 /// Every cut alone.
+#[cfg(feature = "library")]
 pub fn every_cut(bytes: &[u8], mut take: impl FnMut(Damage, &[u8])) {
     for place in 0..bytes.len() {
         take(Damage::Cut, &bytes[..place]);

@@ -5,36 +5,31 @@
 //! and with damaged bytes. Both sides must return the same and leave the same in the whole buffer. What the library is lent
 //! stands between pages that may not be touched.
 
-use std::collections::BTreeMap;
-use std::sync::Mutex;
-
 use bytes::functions;
 use calls::layout::{
-    ACTIONS, ANSWER, ANSWER_BYTES, BAD_BYTES, CALL, CALL_ANSWERED, CALL_BYTES, CALL_MAPPINGS,
-    CALL_SEQUENCE, DECLARED, EVENT, EVENT_BYTES, LIMITS, MAPPINGS, MAPPING_WIDTH, NODES, RECORD,
-    RECORD_STORED, ROUTES, RUN_BYTES, SHEET, SHEET_BYTES, SHEET_DECLARED_COUNT, SHEET_NODE_COUNT,
+    ANSWER_BYTES, BAD_BYTES, CALL, CALL_ANSWERED, CALL_BYTES, CALL_SEQUENCE, EVENT, EVENT_BYTES,
+    RECORD, RECORD_STORED, RUN_BYTES, SHEET, SHEET_BYTES, SHEET_DECLARED_COUNT, SHEET_NODE_COUNT,
     STORE,
 };
 use calls::{numbers, Answer, Call};
 use generator::fields::{Array, FIELDS};
+use generator::joint::{self, Case};
 use generator::rng::{Rng, EDGES};
-use generator::{joint, Generator};
+use generator::Generator;
 use kuxhoveza::raw;
 
-use crate::asked::Asked;
-use crate::compare::each_seed;
-use crate::damage::{every, every_cut, Damage};
+use crate::damage::{self, every, every_cut, Damage};
 use crate::fence::{Edge, Fence, Plain};
 use crate::reasons::Reason;
 use crate::sample;
+use crate::shrink::shrink_bytes;
+use crate::tally::{self, Recorded, Tally, Work};
+use crate::whole::{numbers_of, Whole};
 
-/// Differences that are printed of one seed.
-const PRINTED: u64 = 3;
 /// Inputs of at most so many bytes have each byte changed to every other, longer ones to some.
 const SMALL: usize = 420;
 const SOME_OTHERS: u8 = 15;
-/// Parts that the sample is tried in, and how often one of its calls has all its parts cut everywhere.
-const PARTS: usize = 16;
+/// How often one of the sample's calls has all its parts cut everywhere.
 const CUT_EVERY: usize = 16;
 
 /// A function that takes bytes; one of them with a sheet in numbers.
@@ -234,56 +229,34 @@ impl Sides {
     }
 }
 
-/// A call's numbers, and its parts in bytes.
+/// A call, whole and its parts.
 struct Made {
     sheet: Box<[u32; SHEET]>,
     run: Option<[u64; RECORD]>,
     event: [u64; EVENT],
-    /// The whole call, and the call without its sheet.
-    numbers: bytes::Call,
-    whole: Vec<u8>,
+    whole: Whole,
+    /// The bytes of the call without its sheet.
     rest: Vec<u8>,
-    /// Whether the call's bytes have all its numbers but mapping answers behind their count, which nothing reads.
-    exact: bool,
 }
 
 impl Made {
     fn of(call: &Call) -> Made {
-        let Asked {
-            sheet,
-            call: numbers,
-            record,
-            ..
-        } = Asked::of(call);
-        let mut it = bytes::Call {
-            sheet: Some(sheet.clone()),
-            call: numbers,
-            record,
-        };
-        // Mapping answers behind their count are no part of a call in bytes.
-        let answered = MAPPING_WIDTH * call.mappings.count.min(MAPPINGS as u32) as usize;
-        it.call[CALL_MAPPINGS + answered..].fill(0);
-        let whole = bytes::write_call(&it);
-        let exact = bytes::read_call(&whole, true).is_some_and(|read| read == it);
-        let all = it.clone();
-        it.sheet = None;
+        let whole = Whole::of(call);
+        let mut rest = whole.numbers.clone();
+        let event = &rest.call[CALL_SEQUENCE..][..EVENT];
         Made {
-            numbers: all,
-            sheet,
-            run: call.state.as_ref().map(|_| record),
-            event: numbers[CALL_SEQUENCE..][..EVENT]
-                .try_into()
-                .expect("an event"),
+            event: event.try_into().expect("an event"),
+            sheet: rest.sheet.take().expect("a whole call"),
+            run: call.state.as_ref().map(|_| rest.record),
+            rest: bytes::write_call(&rest),
             whole,
-            rest: bytes::write_call(&it),
-            exact,
         }
     }
 
     /// Its parts that can be written, and what takes each.
     fn inputs(&self) -> Vec<(Taking<'_>, Vec<u8>)> {
         let mut inputs = vec![
-            (Taking::Call, self.whole.clone()),
+            (Taking::Call, self.whole.bytes.clone()),
             (Taking::CallOn(&self.sheet[..]), self.rest.clone()),
         ];
         let sheet = bytes::write_sheet(&self.sheet);
@@ -296,58 +269,25 @@ impl Made {
     }
 }
 
-type Counts = BTreeMap<String, u64>;
-
 /// One thread's comparison.
 struct Comparison {
     sides: Sides,
     rng: Rng,
-    counts: Counts,
-    differences: u64,
-    /// Ends at the first difference.
-    first: bool,
-    /// Where it is, for what it prints.
-    place: String,
+    tally: Tally,
 }
 
 impl Comparison {
-    fn new(seed: u64, first: bool) -> Comparison {
-        Comparison {
-            sides: Sides::new(),
-            rng: Rng::new(seed),
-            counts: Counts::new(),
-            differences: 0,
-            first,
-            place: String::new(),
-        }
-    }
-
-    fn is_over(&self) -> bool {
-        self.first && self.differences > 0
-    }
-
-    fn count(&mut self, key: String) {
-        *self.counts.entry(key).or_default() += 1;
-    }
-
-    fn difference(&mut self, what: impl FnOnce() -> String) {
-        self.differences += 1;
-        if self.differences <= PRINTED {
-            println!("DIFFERENCE at {}: {}", self.place, what());
-        }
-    }
-
     /// One write with a buffer of that length: the bytes, where they are written.
     fn write(&mut self, it: Writing, room: usize) -> Option<Vec<u8>> {
         match self.sides.write(it, room) {
             Ok((said, mut buffer)) => {
                 let (number, size) = raw::parts(said);
-                self.count(format!("{} says {number}", it.name()));
+                self.tally.count(format!("{} says {number}", it.name()));
                 buffer.truncate(size as usize);
                 (number == 0).then_some(buffer)
             }
             Err(parted) => {
-                self.difference(|| {
+                self.tally.difference(|| {
                     let name = it.name();
                     format!("{name} {} in {room} bytes\n{}", parted.text(), it.print())
                 });
@@ -361,17 +301,17 @@ impl Comparison {
         match self.sides.take(it, bytes, room) {
             Ok(said) => {
                 let number = raw::parts(said).0;
-                self.count(format!("{} says {number}", it.name()));
+                self.tally.count(format!("{} says {number}", it.name()));
                 Some(said)
             }
             Err(_) => {
-                let small = match self.differences < PRINTED {
-                    true => shrunk(bytes, |bytes| self.sides.take(it, bytes, room).is_err()),
+                let small = match self.tally.prints() {
+                    true => shrink_bytes(bytes, |bytes| self.sides.take(it, bytes, room).is_err()),
                     false => bytes.to_vec(),
                 };
                 let parted = self.sides.take(it, &small, room);
                 let parted = parted.expect_err("it parts");
-                self.difference(|| {
+                self.tally.difference(|| {
                     let name = it.name();
                     format!("{name} {} in {room}: {small:02x?}", parted.text())
                 });
@@ -412,8 +352,10 @@ impl Comparison {
             }
         };
         match equal {
-            true => self.count(format!("{}, read back equal", it.name())),
-            false => self.difference(|| format!("{} isn't read back: {}", it.name(), it.print())),
+            true => self.tally.count(format!("{}, read back equal", it.name())),
+            false => self
+                .tally
+                .difference(|| format!("{} isn't read back: {}", it.name(), it.print())),
         }
     }
 
@@ -427,11 +369,12 @@ impl Comparison {
                 self.read_back(it, &bytes);
             }
         }
-        if made.exact {
-            self.count("calls whose bytes are all their numbers".to_string());
+        if made.whole.exact {
+            self.tally
+                .count("calls whose bytes are all their numbers".to_string());
         }
         for (it, bytes) in [
-            (Taking::Call, &made.whole),
+            (Taking::Call, &made.whole.bytes),
             (Taking::CallOn(&made.sheet[..]), &made.rest),
         ] {
             let said = self.take(it, bytes, it.room());
@@ -452,12 +395,10 @@ impl Comparison {
 
     /// The answer in bytes to a call that has all its numbers in bytes is that of its numbers.
     fn answered(&mut self, made: &Made, answer: &Answer) {
-        if !made.exact {
+        if !made.whole.exact {
             return;
         }
-        let numbers = numbers::answer(answer).expect("an answer");
-        let numbers: [u64; ANSWER] = numbers.try_into().expect("an answer");
-        let due = match (answer, bytes::write_answer(&numbers)) {
+        let due = match (answer, bytes::write_answer(&numbers_of(answer))) {
             (Answer::Refused { number, item }, _) => (
                 functions::said(*number as usize, (*item).into()),
                 Vec::new(),
@@ -466,7 +407,7 @@ impl Comparison {
             (_, None) => panic!("an answer that has no bytes"),
         };
         for (it, both) in [
-            ("call", self.sides.call(&made.whole, ANSWER_BYTES)),
+            ("call", self.sides.call(&made.whole.bytes, ANSWER_BYTES)),
             (
                 "call_on",
                 self.sides
@@ -479,9 +420,12 @@ impl Comparison {
                 (said, buffer) == due
             });
             match right {
-                true => self.count(format!("{it} answers as in numbers")),
-                false => self.difference(|| {
-                    format!("{it} doesn't answer as in numbers: {:02x?}", made.whole)
+                true => self.tally.count(format!("{it} answers as in numbers")),
+                false => self.tally.difference(|| {
+                    format!(
+                        "{it} doesn't answer as in numbers: {:02x?}",
+                        made.whole.bytes
+                    )
                 }),
             }
         }
@@ -560,32 +504,25 @@ impl Comparison {
 
     /// Damaged bytes: 31 or something else, as the decoder says.
     fn damaged(&mut self, it: Taking, damage: Damage, bytes: &[u8]) {
-        if self.is_over() {
+        if self.tally.is_over() {
             return;
         }
         if let Some(said) = self.take(it, bytes, it.room()) {
-            let what = match raw::parts(said).0 as usize {
-                BAD_BYTES => "bad",
-                _ => "read",
-            };
-            self.count(format!("damaged: {}, {what}", damage.text()));
+            let bad = raw::parts(said).0 as usize == BAD_BYTES;
+            self.tally.count_bytes(&damage.key(), bad);
         }
     }
 
     /// Each count of the call above its capacity, with the rows that it says.
     fn overcounted(&mut self, made: &Made) {
-        for place in SHEET_NODE_COUNT..=SHEET_DECLARED_COUNT {
-            let mut more = made.numbers.clone();
-            let capacity = [NODES, ROUTES, LIMITS, ACTIONS, DECLARED][place - SHEET_NODE_COUNT];
-            let sheet = more.sheet.as_mut().expect("a whole call");
-            sheet[place] = capacity as u32 + 1 + self.rng.small(3);
+        for more in made.whole.overcounted(&mut self.rng) {
             let bytes = bytes::write_call(&more);
             self.damaged(Taking::Call, Damage::Counted, &bytes);
             let sheet = more.sheet.as_ref().expect("a whole call");
             let bytes = bytes::write_any_sheet(sheet);
             self.damaged(Taking::Sheet, Damage::Counted, &bytes);
         }
-        let mut more = made.numbers.clone();
+        let mut more = made.whole.numbers.clone();
         more.sheet = None;
         more.call[CALL_ANSWERED] = 3 + self.rng.below(3) as u64;
         let bytes = bytes::write_call(&more);
@@ -614,7 +551,7 @@ impl Comparison {
         let mut before = vec![0];
         let mut left = damaged;
         for n in 1..=calls {
-            self.place = format!("seed {seed}, call {n}");
+            self.tally.place = format!("seed {seed}, call {n}");
             let call = generator.call();
             let made = Made::of(&call);
             self.call(&made);
@@ -630,19 +567,16 @@ impl Comparison {
                 self.answered(&made, &answer);
                 generator.answered(&call, &answer);
             }
-            before = made.whole;
-            if self.is_over() {
+            before = made.whole.bytes;
+            if self.tally.is_over() {
                 break;
             }
         }
     }
 
-    /// Joint A's calls, damaged in every way.
-    fn joint(&mut self, n: usize) {
-        let Some(case) = joint::cases().into_iter().nth(n) else {
-            return;
-        };
-        self.place = format!("Joint A, {}", case.name);
+    /// A call of Joint A, damaged in every way.
+    fn joint(&mut self, case: &Case) {
+        self.tally.place = format!("Joint A, {}", case.name);
         let made = Made::of(&case.call);
         self.call(&made);
         self.answered(&made, &case.expected);
@@ -659,12 +593,12 @@ impl Comparison {
     }
 
     /// A part of the sample: its answers in bytes, every cut of its calls.
-    fn recorded(&mut self, recorded: &[(Call, Answer)], part: usize) {
-        for (n, (call, answer)) in recorded.iter().enumerate().skip(part).step_by(PARTS) {
-            if self.is_over() {
+    fn recorded(&mut self, part: &[Recorded]) {
+        for (n, (call, answer)) in part {
+            if self.tally.is_over() {
                 break;
             }
-            self.place = format!("call {n} of the sample");
+            self.tally.place = format!("call {n} of the sample");
             let made = Made::of(call);
             self.call(&made);
             self.answered(&made, answer);
@@ -673,35 +607,6 @@ impl Comparison {
                     every_cut(&bytes, |damage, bytes| self.damaged(it, damage, bytes));
                 }
             }
-        }
-    }
-}
-
-/// Fewer and smaller bytes that still differ.
-fn shrunk(bytes: &[u8], mut differs: impl FnMut(&[u8]) -> bool) -> Vec<u8> {
-    let mut small = bytes.to_vec();
-    loop {
-        let before = small.clone();
-        let mut place = 0;
-        while place < small.len() {
-            let mut less = small.clone();
-            less.remove(place);
-            match differs(&less) {
-                true => small = less,
-                false => place += 1,
-            }
-        }
-        for place in 0..small.len() {
-            for byte in [0, 1] {
-                let mut less = small.clone();
-                less[place] = byte;
-                if small[place] > byte && differs(&less) {
-                    small = less;
-                }
-            }
-        }
-        if small == before {
-            return small;
         }
     }
 }
@@ -726,58 +631,34 @@ fn required() -> Vec<String> {
         says(name, &refusals);
     }
     says("call_on", &[4]);
-    for damage in Damage::AT_RANDOM.into_iter().chain([Damage::Counted]) {
-        required.push(format!("damaged: {}, bad", damage.text()));
-    }
+    required.extend(damage::required());
     required
 }
 
 /// Compares on so many calls and so many damaged inputs a seed, after Joint A and the sample, and prints what was reached.
 pub fn run(seeds: &[u64], calls: u64, damaged: u64, first: bool) -> Result<bool, String> {
     let recorded = sample::recorded()?;
-    let cases = joint::cases().len();
-    // First the seeds, then the cases, then the parts of the sample.
-    let works: Vec<u64> = (0..(seeds.len() + cases + PARTS) as u64).collect();
-    let total = Mutex::new((Counts::new(), 0));
-    each_seed(&works, |n| {
-        let n = n as usize;
-        if first && total.lock().unwrap().1 > 0 {
-            return;
+    let tally = tally::of_all(seeds, &recorded, first, |work, rng, tally| {
+        let mut comparison = Comparison {
+            sides: Sides::new(),
+            rng,
+            tally,
+        };
+        match work {
+            Work::Seed(seed) => comparison.seed(*seed, calls, damaged),
+            Work::Joint(case) => comparison.joint(case),
+            Work::Sample(part) => comparison.recorded(part),
         }
-        let mut comparison = Comparison::new(n as u64, first);
-        match (seeds.get(n), n.checked_sub(seeds.len() + cases)) {
-            (Some(seed), _) => {
-                comparison.rng = Rng::new(*seed);
-                comparison.seed(*seed, calls, damaged);
-            }
-            (None, None) => comparison.joint(n - seeds.len()),
-            (None, Some(part)) => comparison.recorded(&recorded, part),
-        }
-        let mut total = total.lock().unwrap();
-        for (key, count) in comparison.counts {
-            *total.0.entry(key).or_default() += count;
-        }
-        total.1 += comparison.differences;
+        comparison.tally
     });
-    let (counts, differences) = total.into_inner().unwrap();
-    println!("| Reached | Times |\n|---|---|");
-    for (key, count) in &counts {
-        println!("| {key} | {count} |");
-    }
-    let required = required();
-    let missing = required.iter().filter(|key| !counts.contains_key(*key));
-    let missing: Vec<&String> = missing.collect();
-    for key in &missing {
-        println!("not reached: {key}");
-    }
-    let damaged = counts
-        .iter()
-        .filter(|(key, _)| key.starts_with("damaged: "));
-    let damaged: u64 = damaged.map(|(_, count)| count).sum();
+    let reached = tally.print(&required());
     println!(
-        "{} calls of seeds, {cases} of Joint A, {} of the sample; {damaged} damaged inputs; {differences} differences",
+        "{} calls of seeds, {} of Joint A, {} of the sample; {} damaged inputs; {} differences",
         calls * seeds.len() as u64,
-        recorded.len()
+        joint::cases().len(),
+        recorded.len(),
+        tally.sum(damage::KEYS),
+        tally.differences
     );
-    Ok(differences == 0 && (first || missing.is_empty()))
+    Ok(tally.differences == 0 && (first || reached))
 }

@@ -8,6 +8,9 @@
 //! harness bytes SEED.. [--calls N] [--damaged N] [--first]
 //!                                               the library's functions of bytes against a second reading of
 //!                                               docs/BYTES.md, on N calls and N damaged inputs a seed
+//! harness program [PATH] SEED.. [--damaged N] [--first]
+//!                                               the program (by default target/bin/kuxhoveza) against the same reading
+//!                                               and the plain one, on N damaged inputs a seed
 //! harness wrong SEED.. [--calls N]              after how many calls each wrong reading is found
 //! harness joint                                 the cases of Joint A on both
 //! harness recorded FILE..                       recorded calls and answers, in text form, on both
@@ -21,7 +24,6 @@
 mod asked;
 mod compare;
 mod counts;
-#[cfg(feature = "library")]
 mod damage;
 #[cfg(feature = "library")]
 mod fence;
@@ -29,10 +31,15 @@ mod fence;
 mod in_bytes;
 #[cfg(feature = "library")]
 mod library;
+mod lines;
+mod program;
 mod reasons;
 mod sample;
 mod shrink;
+mod tally;
+mod whole;
 
+use std::path::Path;
 use std::process::ExitCode;
 
 use calls::text;
@@ -44,7 +51,7 @@ use reasons::Reason;
 struct Arguments {
     seeds: Vec<u64>,
     calls: u64,
-    damaged: u64,
+    damaged: Option<u64>,
     fast: bool,
     first: bool,
 }
@@ -53,7 +60,7 @@ fn arguments(words: &[String]) -> Result<Arguments, String> {
     let mut arguments = Arguments {
         seeds: Vec::new(),
         calls: 100_000,
-        damaged: 1_000_000,
+        damaged: None,
         fast: false,
         first: false,
     };
@@ -65,7 +72,7 @@ fn arguments(words: &[String]) -> Result<Arguments, String> {
                 let count = words.next().ok_or(format!("{word} needs a number"))?;
                 match word.as_str() {
                     "--calls" => arguments.calls = number(count)?,
-                    _ => arguments.damaged = number(count)?,
+                    _ => arguments.damaged = Some(number(count)?),
                 }
             }
             "--fast" => arguments.fast = true,
@@ -136,7 +143,7 @@ fn in_bytes(arguments: &Arguments) -> Result<bool, String> {
         first,
         ..
     } = arguments;
-    in_bytes::run(seeds, *calls, *damaged, *first)
+    in_bytes::run(seeds, *calls, damaged.unwrap_or(1_000_000), *first)
 }
 
 #[cfg(not(feature = "library"))]
@@ -146,6 +153,25 @@ fn library(_: &Arguments) -> Result<bool, String> {
 
 #[cfg(not(feature = "library"))]
 use library as in_bytes;
+
+/// Where the program is, if its file isn't named.
+const PROGRAM: &str = concat!(env!("CARGO_MANIFEST_DIR"), "/../../target/bin/kuxhoveza");
+
+/// The first word is the program's file, unless it is a seed.
+fn program(words: &[String]) -> Result<bool, String> {
+    let named = |word: &&String| word.parse::<u64>().is_err() && !word.starts_with("--");
+    let (path, rest) = match words.first().filter(named) {
+        Some(path) => (path.as_str(), &words[1..]),
+        None => (PROGRAM, words),
+    };
+    let Arguments {
+        seeds,
+        damaged,
+        first,
+        ..
+    } = arguments(rest)?;
+    program::run(Path::new(path), &seeds, damaged.unwrap_or(50_000), first)
+}
 
 fn joint() -> bool {
     let mut good = true;
@@ -177,6 +203,7 @@ fn run(words: &[String]) -> Result<bool, String> {
         "compare" => Ok(compare(&arguments(rest)?)),
         "library" => library(&arguments(rest)?),
         "bytes" => in_bytes(&arguments(rest)?),
+        "program" => program(rest),
         "wrong" => {
             let arguments = arguments(rest)?;
             Ok(compare::wrong(&arguments.seeds, arguments.calls))

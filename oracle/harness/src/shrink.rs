@@ -1,5 +1,5 @@
 //! Makes a call smaller while something holds of it: rows that may go do, then every number that may be 0 becomes 0, or
-//! else 1.
+//! else 1. The same of bytes.
 
 use calls::{numbers, Call, Workflow, NODES, NONE, ROUTES, STORE};
 
@@ -163,6 +163,35 @@ pub fn each_number(words: &mut [u64], mut kept: impl FnMut(&[u64]) -> bool) {
                 break;
             }
             words[i] = word;
+        }
+    }
+}
+
+/// Fewer and smaller bytes of which it still holds.
+pub fn shrink_bytes(bytes: &[u8], mut holds: impl FnMut(&[u8]) -> bool) -> Vec<u8> {
+    let mut small = bytes.to_vec();
+    loop {
+        let before = small.clone();
+        let mut place = 0;
+        while place < small.len() {
+            let mut less = small.clone();
+            less.remove(place);
+            match holds(&less) {
+                true => small = less,
+                false => place += 1,
+            }
+        }
+        for place in 0..small.len() {
+            for byte in [0, 1] {
+                let mut less = small.clone();
+                less[place] = byte;
+                if small[place] > byte && holds(&less) {
+                    small = less;
+                }
+            }
+        }
+        if small == before {
+            return small;
         }
     }
 }
