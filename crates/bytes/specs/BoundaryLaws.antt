@@ -1,7 +1,7 @@
 -- The boundary's functions by their tests.
 use mathlib.Core.Path.{_≡_, refl, sym, ap, _∙_}
 use mathlib.Core.Bool.{Bool, true, false, not, false≢true}
-use mathlib.Core.List.{List, [], _∷_, _++_}
+use mathlib.Core.List.{List, [], _∷_, _++_, append-nil}
 use Prim.Native.Nat.{ℕ, _+_, _*_, _-_, _^_, _≤_, _<_}
 use native.Mathlib.Omega.{arith}
 use lib.Dec.{ltb, eqb}
@@ -39,6 +39,13 @@ module _ {o : Outcome} (array : List ℕ) where
 pub part-all : (xs : List ℕ) {k : ℕ} → length xs ≡ k → part xs 0 (0 + k) ≡ xs
 unfolding part
 part-all xs {k} e = let z : 0 + k - 0 ≡ k = omega arith in rw z (take-all k xs (omega arith))
+
+-- All the bytes of a value are read back.
+pub all-back : (shape : Shape) → Exact shape → (ns : List ℕ) → shape .tidy ns ≡ true → shape .read (bytes-of (shape .fields ns)) 0 ≡ got ns (length (bytes-of (shape .fields ns)))
+all-back shape exact ns tidy =
+    let b = bytes-of (shape .fields ns) in
+    let e : 0 + length b ≡ length b = omega arith in
+    rw e at (exact .back b [] ns 0 tidy (sym (append-nil b)))
 
 -- A WRITE.
 module _ (room : ℕ) (bytes : List ℕ) where

@@ -1,5 +1,4 @@
 -- A call as bytes (docs/BYTES.md): ceilings and limits; the sheet; 0, or 1 and the run; the event; the mapping answers after their count.
-use mathlib.Core.Bool.{Bool}
 use mathlib.Core.List.{List, [], _∷_, _++_}
 use Prim.Native.Nat.{ℕ, suc, _+_, _*_, _-_, _^_}
 use lib.Dec.{eqb}
@@ -17,9 +16,6 @@ mark = record { room = 1; shape = λ _. numbers 2 1 }
 
 abbrev pub given-shape : (mark : ℕ) → Shape
 given-shape mark = if eqb mark 1 then run else column (2 ^ 64) layout.record-length 0
-
-abbrev pub marked : Bool → ℕ
-marked has = if has then 1 else 0
 
 abbrev pub given : Stage
 given = record { room = layout.record-length; shape = λ seen. given-shape (getD seen 0 0) }

@@ -5,6 +5,7 @@ pub mod Event
 pub mod Call
 pub mod Answer
 pub mod Boundary
+pub mod Structs
 pub mod CallStored
 -- laws
 pub mod SheetLaws
@@ -18,4 +19,5 @@ pub mod RestSteps
 pub mod CallSteps
 pub mod EventLaws
 pub mod BoundaryLaws
+pub mod StructsLaws
 pub mod DecideLaws

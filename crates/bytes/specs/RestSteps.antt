@@ -11,6 +11,7 @@ use Rattle.laws.specs.Bool.{if_then_else_, split}
 use Rattle.laws.specs.Splice.{splice, splice-all, splice-more, length-splice}
 use Rattle.laws.specs.Listing.{padded}
 use Rattle.host.specs.Layout as layout
+use Rattle.host.specs.Write.{marked}
 use Rattle.codec.specs.declared.numbers.Place.{Place}
 use Rattle.codec.specs.Read.{Read, got, bad, onward}
 use Rattle.codec.specs.Leb.{number-at}
@@ -26,7 +27,7 @@ use Rattle.codec.specs.ColumnsLaws.{column-read}
 use Rattle.codec.specs.ColumnsLoops.{column-place, column-long, column-stored}
 use Rattle.codec.specs.Zeros.{zero-behind}
 use Rattle.bytes.specs.Run.{run}
-use Rattle.bytes.specs.Call.{mark, given-shape, marked, given, event-numbers, answered, answers, rest}
+use Rattle.bytes.specs.Call.{mark, given-shape, given, event-numbers, answered, answers, rest}
 use Rattle.bytes.specs.CallStored.{Rest-stored}
 use Rattle.bytes.specs.CallLaws.{given-exact, given-width}
 use Rattle.bytes.specs.StagesLeft.{read-long, same-read, Left, left-start, left-bad, left-more, left-end}

@@ -9,8 +9,9 @@ ghost use mathlib.Core.Path.{_≡_};
 ghost use lib.ListN.{replicate};
 ghost use Rattle.workflow.specs.Layout.{numbers as sheet-length};
 ghost use Rattle.host.specs.Layout.{record-length, call-length, call-has-record};
+ghost use Rattle.host.specs.Write.{marked};
 ghost use Rattle.codec.specs.Stored.{place-of, Stored, Zero-from};
-ghost use Rattle.bytes.specs.Call.{given-shape, rest, call as whole-call, marked};
+ghost use Rattle.bytes.specs.Call.{given-shape, rest, call as whole-call};
 ghost use Rattle.bytes.specs.CallStored.{Rest-stored, Call-stored};
 
 fn read_given(

@@ -4,6 +4,7 @@ mod call;
 mod event;
 pub mod run;
 mod sheet;
+pub mod structs;
 
 use crate::answer::answer_size;
 use crate::answer::write_answer;

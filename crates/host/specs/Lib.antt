@@ -15,4 +15,5 @@ pub mod ByCount
 pub mod WriteRows
 pub mod Round
 pub mod RoundBack
+pub mod RecordSame
 pub mod AnswerBack

@@ -18,7 +18,7 @@ use Rattle.host.specs.Lists.{all-span, rows-append, flat-rows}
 use Rattle.host.specs.Cases.{Below, both-of, small, name-small, narrow-below, fields-below, Output-case, Kept-case, output-case, kept-case, output-again, kept-again, output-read, kept-read}
 
 -- The fields of a group by their place in its list.
-none : Field
+abbrev none : Field
 none = number 0
 
 -- THE RECORD.
@@ -201,7 +201,7 @@ module _ (c : List ℕ) (fits : call-fits c ≡ true) where
   limit-field : (n : ℕ) → n < 8 → Below c (getD limit-fields n none)
   limit-field n h = fields-below c limit-fields (call-parts .limits) n none h
 
-  event-field : (n : ℕ) → n < 17 → Below c (getD event-fields n none)
+  pub event-field : (n : ℕ) → n < 17 → Below c (getD event-fields n none)
   event-field n h = fields-below c event-fields (call-parts .event) n none h
 
   mapping-read : (i : ℕ) → all-fit c (mapping-fields i) ≡ true → Mapping-fits (mapping-of c i)

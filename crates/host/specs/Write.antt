@@ -1,7 +1,9 @@
--- How a run record and an answer stand as numbers (docs/NUMBERS.md).
+-- How a run record, an event and an answer stand as numbers (docs/NUMBERS.md).
+use mathlib.Core.Bool.{Bool}
 use mathlib.Core.List.{List, [], _∷_, _++_, flatMap}
 use Prim.Native.Nat.{ℕ}
 use lib.ListN.{replicate}
+use Rattle.laws.specs.Bool.{if_then_else_}
 use Rattle.model.specs.declared.BufferedSignal.{BufferedSignal}
 use Rattle.model.specs.declared.Visits.{Visits}
 use Rattle.model.specs.declared.Streak.{Streak}
@@ -10,6 +12,7 @@ use Rattle.model.specs.declared.State.{State}
 use Rattle.model.specs.declared.answer.Note.{Note}
 use Rattle.model.specs.declared.answer.Ending.{Ending}
 use Rattle.model.specs.declared.answer.Answer.{Answer}
+use Rattle.model.specs.declared.event.Event.{Event}
 use Rattle.kernel.specs.declared.Decision.{Decision}
 use Rattle.host.specs.Layout.{record-length}
 use Rattle.model.specs.Answers.{output-numbers, kept-numbers, answer-numbers}
@@ -47,6 +50,16 @@ unfoldable pub record-numbers : State → List ℕ
 record-numbers state =
     head-numbers state ++ flatMap signal-numbers (state .signals) ++ flatMap visits-numbers (state .visits)
     ++ flatMap streak-numbers (state .streaks) ++ flatMap result-numbers (state .results)
+
+-- THE EVENT: the numbers of a call from its sequence on. A mark is 1 or 0.
+abbrev pub marked : Bool → ℕ
+marked is = if is then 1 else 0
+
+unfoldable pub event-numbers : Event → List ℕ
+event-numbers event =
+    event .sequence ∷ event .«accepted_at» ∷ event .«event_id» ∷ event .kind ∷ event .input ∷ event .signal ∷ event .outcome ∷ event .«data» ∷ event .node
+    ∷ event .visit ∷ event .attempt ∷ event .status ∷ event .output ∷ marked (event .«has_error») ∷ event .code ∷ event .detail ∷ marked (event .retryable)
+    ∷ event .delay ∷ event .resolution ∷ []
 
 -- THE ANSWER. A refusal has no record.
 unfoldable pub state-numbers : Answer → State → List ℕ

@@ -1,9 +1,10 @@
 -- How many numbers each part of an answer has, and parts written one behind the other.
 use mathlib.Core.Path.{_≡_, refl, _∙_, ap}
-use mathlib.Core.List.{List, [], _∷_, _++_, flatMap}
+use mathlib.Core.List.{List, [], _∷_, _++_, flatMap, append-assoc, append-nil}
 use Prim.Native.Nat.{ℕ, _+_, _*_, _≤_}
 use native.Mathlib.Omega.{arith}
 use lib.ListN.{length, getD, length-append}
+use lib.Seq.{getD-at}
 use Rattle.laws.specs.Rows.{rows, rows-all}
 use Rattle.laws.specs.Splice.{splice, splice-more, length-flat}
 use Rattle.model.specs.declared.Output.{Output}
@@ -19,7 +20,7 @@ use Rattle.model.specs.declared.answer.Note.{Note}
 use Rattle.model.specs.declared.answer.Ending.{Ending}
 use Rattle.model.specs.declared.answer.Answer.{Answer}
 use Rattle.model.specs.Answers.{output-numbers, kept-numbers, params-numbers, order-numbers, answer-numbers}
-use Rattle.host.specs.Layout.{store, nodes, signal-width, streak-width, result-width, note-width, ending-width, output-width, error-width, record-error, record-signals, record-length, answer-noted}
+use Rattle.host.specs.Layout.{store, nodes, signal-width, streak-width, result-width, note-width, ending-width, output-width, error-width, record-error, record-stored, record-signals, record-length, answer-noted}
 use Rattle.host.specs.Write.{signal-numbers, visits-numbers, streak-numbers, result-numbers, note-numbers, ending-numbers, scalar-numbers, head-numbers, record-numbers}
 
 pub length-output : (x : Output) → length (output-numbers x) ≡ output-width
@@ -86,6 +87,18 @@ length-scalars s = refl
 pub length-head : (s : State) → length (head-numbers s) ≡ record-signals
 unfolding head-numbers
 length-head s = simp (length-append, length-scalars, length-kept, length-output)
+
+-- The number of stored signals stands last in the head.
+pub head-stored : (s : State) → getD (head-numbers s) record-stored 0 ≡ s .«signal_count»
+unfolding head-numbers
+head-stored s =
+    getD-at (scalar-numbers s ++ kept-numbers (s .invocation .error) ++ output-numbers (s .result .output)) (s .«signal_count») [] 0 record-stored
+    (simp (length-append, length-scalars, length-kept, length-output))
+
+-- The parts of a record's numbers, each with all that follows it.
+pub record-laid : (s : State) → record-numbers s ≡ head-numbers s ++ (flatMap signal-numbers (s .signals) ++ (flatMap visits-numbers (s .visits) ++ (flatMap streak-numbers (s .streaks) ++ (flatMap result-numbers (s .results) ++ []))))
+unfolding record-numbers
+record-laid s = simp (append-assoc, append-nil)
 
 -- n rows of w numbers each
 pub flat-size : {A : Type 0} (f : A → List ℕ) (n : ℕ) {w : ℕ} → ((x : A) → length (f x) ≡ w) → (xs : List A) → length xs ≡ n → length (flatMap f xs) ≡ w * n

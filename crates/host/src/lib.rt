@@ -1,7 +1,7 @@
 // The boundary for hosts: a call, a run record and an answer as plain numbers (docs/NUMBERS.md).
 pub mod layout;
 pub mod read;
-mod write;
+pub mod write;
 
 use crate::read::Used;
 use crate::read::call_fits;

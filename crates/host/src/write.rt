@@ -10,6 +10,7 @@ use model::Visits;
 use model::answer::Answer;
 use model::answer::Ending;
 use model::answer::Note;
+use model::event::Event;
 use workflow::capped;
 ghost use mathlib.Core.Path.{_≡_};
 ghost use Prim.Native.Nat.{_+_, _*_, _≤_};
@@ -19,7 +20,7 @@ ghost use Rattle.model.specs.declared.Output.{Output};
 ghost use Rattle.model.specs.Record.{no-signal, no-visits, no-streak, no-node-result};
 ghost use Rattle.model.specs.Step.{no-note, no-ending};
 ghost use Rattle.host.specs.Layout.{store, nodes, notes, endings, signal-width, streak-width, result-width, note-width, ending-width, record-signals, record-length, answer-length};
-ghost use Rattle.host.specs.Write.{signal-numbers, visits-numbers, streak-numbers, result-numbers, note-numbers, ending-numbers, scalar-numbers, head-numbers, record-numbers, decision-numbers};
+ghost use Rattle.host.specs.Write.{signal-numbers, visits-numbers, streak-numbers, result-numbers, note-numbers, ending-numbers, scalar-numbers, head-numbers, record-numbers, decision-numbers, marked, event-numbers};
 ghost use Rattle.host.specs.ByCount.{Zeros};
 ghost use Rattle.host.specs.WriteRows.{rows-of, Empty-past, Rows-written, is-refused, Counted};
 
@@ -263,6 +264,51 @@ fn write_record(out: &mut [u64], at: usize, s: State, count: usize)
     write_visits(out, at + layout::RECORD_VISITS, visits, count);
     write_streaks(out, at + layout::RECORD_STREAKS, streaks, count);
     write_results(out, at + layout::RECORD_RESULTS, results, count);
+}
+
+// A record's numbers by themselves.
+pub fn record_numbers(s: State) -> [u64; layout::RECORD]
+    ensures { λ r. ⌜ r ≡ record-numbers s ⌝ }
+{
+    let mut out = [0u64; layout::RECORD];
+    write_record(&mut out, 0, s, layout::NODES);
+    out
+}
+
+fn marked(is: bool) -> u64
+    ensures { λ r. ⌜ r ≡ marked is ⌝ }
+{
+    if is {
+        return 1;
+    }
+    0
+}
+
+// An event's numbers: those of a call from its sequence on.
+pub fn event_numbers(e: Event) -> [u64; layout::EVENT]
+    ensures { λ r. ⌜ r ≡ event-numbers e ⌝ }
+{
+    [
+        e.sequence,
+        e.accepted_at,
+        e.event_id as u64,
+        e.kind as u64,
+        e.input as u64,
+        e.signal as u64,
+        e.outcome as u64,
+        e.data as u64,
+        e.node as u64,
+        e.visit as u64,
+        e.attempt as u64,
+        e.status as u64,
+        e.output as u64,
+        marked(e.has_error),
+        e.code as u64,
+        e.detail as u64,
+        marked(e.retryable),
+        e.delay,
+        e.resolution as u64,
+    ]
 }
 
 fn is_refused(answer: Answer) -> bool

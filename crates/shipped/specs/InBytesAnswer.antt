@@ -12,8 +12,8 @@ use Rattle.laws.specs.Every.{every-append}
 use Rattle.host.specs.Layout as layout
 use Rattle.codec.specs.Read.{got, onward}
 use Rattle.codec.specs.Numbers.{bytes-of, numbers-at, all-below, part}
-use Rattle.codec.specs.Stages.{Shape, numbers, column, beside, staged}
-use Rattle.codec.specs.Exact.{Exact, bytes-append}
+use Rattle.codec.specs.Stages.{numbers, column, beside, staged}
+use Rattle.codec.specs.Exact.{bytes-append}
 use Rattle.codec.specs.NumbersLaws.{numbers-exact}
 use Rattle.codec.specs.ColumnsLaws.{tidy-column, bytes-few}
 use Rattle.bytes.specs.Run.{run}
@@ -29,13 +29,6 @@ past bytes at xs rest e = sym (drop-drop (length xs) at bytes) ∙ rw e (drop-at
 pub numbers-there : (top k : ℕ) (bytes rest ns : List ℕ) (at : ℕ) → top ≤ 2 ^ 64 → length ns ≡ k → all-below top ns ≡ true → drop at bytes ≡ bytes-of ns ++ rest → numbers-at top k bytes at ≡ got ns (at + length (bytes-of ns))
 unfolding numbers
 numbers-there top k bytes rest ns at small long below e = numbers-exact top k small .back bytes rest ns at (join _ _ (eq-eqb (length ns) k long) below) e
-
--- All the bytes of a value are read back.
-pub all-back : (shape : Shape) → Exact shape → (ns : List ℕ) → shape .tidy ns ≡ true → shape .read (bytes-of (shape .fields ns)) 0 ≡ got ns (length (bytes-of (shape .fields ns)))
-all-back shape exact ns tidy =
-    let b = bytes-of (shape .fields ns) in
-    let e : 0 + length b ≡ length b = omega arith in
-    rw e at (exact .back b [] ns 0 tidy (sym (append-nil b)))
 
 -- The run's numbers stand last, and their bytes are few.
 module _ (ns : List ℕ) (long : length ns ≡ layout.answer-length) where

@@ -32,6 +32,7 @@ use Rattle.bytes.specs.Call.{without-sheet, run-in, numbers-in}
 use Rattle.bytes.specs.Answer.{answer as answer-shape}
 use Rattle.bytes.specs.AnswerLaws.{answer-exact}
 use Rattle.bytes.specs.Boundary.{bad-bytes, short, no-item, done, packed, returned as returned-by, left, into, Decided, said, unread, decide, told as told-of}
+use Rattle.bytes.specs.BoundaryLaws.{all-back}
 use Rattle.shipped.specs.Shipped.{Standing as Numbers, nothing as no-numbers, numbers as numbers-stand}
 use Rattle.shipped.specs.Shipped as shipped
 use Rattle.shipped.specs.Refusals.{Known-answer}
@@ -40,7 +41,7 @@ use Rattle.shipped.specs.Holds.{shipped-holds, shipped-ordered, shipped-
 use Rattle.shipped.specs.TidyAnswer.{next-tidy, want-tidy}
 use Rattle.shipped.specs.TidySheet.{sheet-below}
 use Rattle.shipped.specs.InBytes.{Made, came-to, told-in, answer-to, accepts, answer-in, run-in-answer, run-bytes, standing, Gets, Follows, Ran, numbers-of, call-numbers, with-entry, entries, number, Tells, Run-back, Kept, Right}
-use Rattle.shipped.specs.InBytesAnswer.{all-back, Parts, parts, run-found, answer-few, want-few}
+use Rattle.shipped.specs.InBytesAnswer.{Parts, parts, run-found, answer-few, want-few}
 use Rattle.shipped.specs.InBytesCall.{Same, Got-numbers, sheet-there, numbers-got, never-said, Answered, answered-by}
 use Rattle.shipped.specs.InBytesTaken.{taken}
 

@@ -1,12 +1,11 @@
 -- A record that the run check takes is tidy as the numbers of a run: what is stored, streaks and results are zero where they are unused.
 use mathlib.Core.Path.{_≡_, refl, sym, _∙_}
 use mathlib.Core.Bool.{true}
-use mathlib.Core.List.{List, [], _∷_, _++_, flatMap, append-assoc, append-nil}
+use mathlib.Core.List.{List, [], _∷_, _++_, flatMap}
 use Prim.Native.Nat.{ℕ, _*_, _^_}
 use native.Mathlib.Omega.{arith}
 use lib.Dec.{eqb, ltb}
-use lib.ListN.{length, getD, drop, length-append}
-use lib.Seq.{getD-at}
+use lib.ListN.{length, getD, drop}
 use borrow.Author.Tests.{eq-eqb, leb-true}
 use Rattle.laws.specs.Bool.{if_then_else_, _and_, _or_, split, both, join, if-true, if-false}
 use Rattle.laws.specs.Every.{every}
@@ -16,15 +15,15 @@ use Rattle.model.specs.declared.BufferedSignal.{BufferedSignal}
 use Rattle.model.specs.declared.Streak.{Streak}
 use Rattle.model.specs.declared.NodeResult.{NodeResult}
 use Rattle.model.specs.declared.State.{State}
-use Rattle.model.specs.Answers.{output-numbers, kept-numbers}
+use Rattle.model.specs.Answers.{output-numbers}
 use Rattle.model.specs.Record.{no-streak, no-node-result}
 use Rattle.model.specs.Store.{signal-zero, signals-fit}
 use Rattle.snapshot.specs.Check.{result-fits, result-zero, streak-fits, streak-zero, consistent}
 use Rattle.demand3.specs.Tidy.{Sized, Tidies, tidy-of}
 use Rattle.host.specs.Layout as layout
 use Rattle.host.specs.Lists.{every-all}
-use Rattle.host.specs.Write.{signal-numbers, visits-numbers, streak-numbers, result-numbers, scalar-numbers, head-numbers, record-numbers}
-use Rattle.host.specs.WriteLaws.{Whole, length-output, length-kept, length-scalars, length-head, length-signal, length-visits, length-streak, length-result, flat-size}
+use Rattle.host.specs.Write.{signal-numbers, visits-numbers, streak-numbers, result-numbers, head-numbers, record-numbers}
+use Rattle.host.specs.WriteLaws.{Whole, length-head, length-signal, length-visits, length-streak, length-result, flat-size, head-stored, record-laid}
 use Rattle.codec.specs.Numbers.{all-below}
 use Rattle.codec.specs.Stages.{numbers, column, all-zero}
 use Rattle.codec.specs.Slots.{slots}
@@ -62,13 +61,6 @@ result-blank f n x (Output.Error i) e h z = absurd (omega (arith, rw e at z))
 
 -- THE PARTS of a record's numbers.
 module _ (s : State) where
-  -- The number of stored signals stands last in the head.
-  stored-there : getD (head-numbers s) layout.record-stored 0 ≡ s .«signal_count»
-  unfolding head-numbers
-  stored-there =
-      getD-at (scalar-numbers s ++ kept-numbers (s .invocation .error) ++ output-numbers (s .result .output)) (s .«signal_count») [] 0 layout.record-stored
-      (simp (length-append, length-scalars, length-kept, length-output))
-
   abbrev signals : List ℕ
   signals = flatMap signal-numbers (s .signals)
 
@@ -90,17 +82,13 @@ module _ (s : State) where
   abbrev from-signals : List ℕ
   from-signals = signals ++ from-visits
 
-  laid : record-numbers s ≡ head-numbers s ++ from-signals
-  unfolding record-numbers
-  laid = simp (append-assoc, append-nil)
-
 -- A record that is tidy by the run check, wherever it stands.
 module _ (f : Workflow) (s : State) (fits : Tidies f s) (below : all-below (2 ^ 64) (record-numbers s) ≡ true) where
   whole : Whole s
   whole = record { signals = fits .store .slotted .long; visits = fits .visit-slots .long; streaks = fits .streak-slots .long; results = fits .result-slots .long }
 
   head-below : (all-below (2 ^ 64) (head-numbers s) ≡ true) × (all-below (2 ^ 64) (from-signals s) ≡ true)
-  head-below = every-parts (λ n. ltb n (2 ^ 64)) (head-numbers s) (from-signals s) (rw (laid s) at below)
+  head-below = every-parts (λ n. ltb n (2 ^ 64)) (head-numbers s) (from-signals s) (rw (record-laid s) at below)
 
   signals-below : (all-below (2 ^ 64) (signals s) ≡ true) × (all-below (2 ^ 64) (from-visits s) ≡ true)
   signals-below = every-parts (λ n. ltb n (2 ^ 64)) (signals s) (from-visits s) (head-below .1)
@@ -122,7 +110,7 @@ module _ (f : Workflow) (s : State) (fits : Tidies f s) (below : all-below (2 ^ 
       let few = leb-true (s .«signal_count») layout.store (a .0) in
       let n = whole .signals in
       let blank = every-all signal-zero _ signal-blank (drop (s .«signal_count») (s .signals)) (both _ _ (a .1) .1) in
-      rw (stored-there s)
+      rw (head-stored s)
       (rows-column signal-numbers layout.signal-width length-signal (2 ^ 64) (layout.signal-width * layout.store) (s .«signal_count») (s .signals) (omega arith) (omega arith)
       (signals-below .0) (rows-zero signal-numbers _ blank))
 
@@ -145,7 +133,7 @@ module _ (f : Workflow) (s : State) (fits : Tidies f s) (below : all-below (2 ^ 
       let a = flat-size signal-numbers layout.store length-signal (s .signals) (whole .signals) in
       let c = flat-size streak-numbers layout.nodes length-streak (s .streaks) (whole .streaks) ∙ sym (slots-width (2 ^ 64) 1 0 layout.nodes) in
       let d = flat-size result-numbers layout.nodes length-result (s .results) (whole .results) ∙ sym (slots-width (2 ^ 64) 2 3 layout.nodes) in
-      rw (laid s)
+      rw (record-laid s)
       (stage-tidy single-numbers (stored-signals ∷ all-visits ∷ all-streaks ∷ all-results ∷ []) [] (head-numbers s) _ (length-head s) (numbers-tidy (2 ^ 64) layout.record-signals (head-numbers s) (length-head s) (head-below .0))
       (stage-tidy stored-signals (all-visits ∷ all-streaks ∷ all-results ∷ []) _ (signals s) _ a signals-tidy
       (stage-tidy all-visits (all-streaks ∷ all-results ∷ []) _ (visits s) _ visits-long (numbers-tidy (2 ^ 64) layout.nodes (visits s) visits-long (visits-below .0))
