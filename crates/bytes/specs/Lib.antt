@@ -19,5 +19,6 @@ pub mod RestSteps
 pub mod CallSteps
 pub mod EventLaws
 pub mod BoundaryLaws
+pub mod BothWays
 pub mod StructsLaws
 pub mod DecideLaws

@@ -1,15 +1,16 @@
 -- What is written of a struct is what is written of its numbers, and is read back as the struct.
 use mathlib.Core.Path.{_≡_, refl, sym, ap, _∙_}
-use mathlib.Core.Bool.{Bool, true, false, not}
+use mathlib.Core.Bool.{Bool, true, false}
 use mathlib.Core.List.{List, [], _∷_, _++_, flatMap, append-assoc, append-nil}
-use Prim.Native.Nat.{ℕ, zero, suc, _+_, _*_, _^_}
+use Prim.Native.Nat.{ℕ, zero, suc, _+_, _*_, _^_, _≤_, _<_}
 use native.Mathlib.Nat.{mul-suc}
 use native.Mathlib.Omega.{arith}
-use lib.Dec.{ltb, eqb}
-use lib.ListN.{length, take}
+use lib.Dec.{eqb}
+use lib.ListN.{length, getD, take}
 use lib.Seq.{take-all, take-at, drop-at, take-append-add}
 use borrow.Author.Tests.{eq-eqb}
-use Rattle.laws.specs.Bool.{if_then_else_, split, join}
+use Rattle.laws.specs.Bool.{if_then_else_}
+use Rattle.laws.specs.Rows.{rows, rows-all}
 use Rattle.model.specs.declared.Streak.{Streak}
 use Rattle.model.specs.declared.NodeResult.{NodeResult}
 use Rattle.model.specs.declared.State.{State}
@@ -20,20 +21,18 @@ use Rattle.host.specs.Read.{record-of, event-of, record-fits}
 use Rattle.host.specs.Write.{signal-numbers, visits-numbers, streak-numbers, result-numbers, head-numbers, record-numbers, marked, event-numbers}
 use Rattle.host.specs.WriteLaws.{Whole, length-head, length-signal, length-visits, length-streak, length-result, length-record, flat-size, record-laid, head-stored}
 use Rattle.host.specs.Cases.{small, name-small, code-small}
-use Rattle.host.specs.Round.{event-field}
+use Rattle.host.specs.Round.{record-back, fits-read, event-field}
 use Rattle.host.specs.RecordSame.{record-back-whole}
-use Rattle.codec.specs.Read.{got}
-use Rattle.codec.specs.Numbers.{bytes-of, all-below}
-use Rattle.codec.specs.Stages.{Shape, Stage, numbers, column, beside, staged}
+use Rattle.codec.specs.Numbers.{all-below}
+use Rattle.codec.specs.Stages.{Stage, numbers, column, beside, staged}
 use Rattle.codec.specs.Slots.{slot, slots}
 use Rattle.codec.specs.SlotsLaws.{slots-width}
-use Rattle.codec.specs.Exact.{Exact}
-use Rattle.codec.specs.NumbersLaws.{numbers-exact}
+use Rattle.codec.specs.Exact.{Bytes}
 use Rattle.bytes.specs.Run.{single-numbers, stored-signals, all-visits, all-streaks, all-results, run}
-use Rattle.bytes.specs.RunLaws.{run-exact}
+use Rattle.bytes.specs.RunLaws.{run-width}
 use Rattle.bytes.specs.Event.{event, event-call, event-fits}
-use Rattle.bytes.specs.Boundary.{bad-run, no-item, Outcome, done, refused, into, write-run, write-event, ended, whole, taken, read-run, read-event}
-use Rattle.bytes.specs.BoundaryLaws.{all-back, taken-done, run-taken, event-taken}
+use Rattle.bytes.specs.Boundary.{done, write-run, write-event, read-run, read-event}
+use Rattle.bytes.specs.BothWays.{passed, run-read, run-back, run-only, event-read, event-back as numbers-back, event-only as numbers-only}
 use Rattle.bytes.specs.Structs.{streak-fields, result-fields, state-fields, of-state, of-event}
 
 -- THE NUMBERS OF A RUN. The fields of one stage behind another.
@@ -127,36 +126,17 @@ pub event-written : (e : Event) (room : ℕ) {ns : List ℕ} → ns ≡ event-nu
 unfolding write-event of-event event numbers if_then_else_
 event-written e room is = rw (is, eq-eqb (length (event-numbers e)) layout.event-length (length-event e))
 
--- WHAT IS WRITTEN: no test refused it, and it had room.
-not-done : {G : Type 0} {number item size : ℕ} {bytes : List ℕ} → refused number item ≡ done size bytes → G
-not-done {G} {number} {item} {size} {bytes} e = let z : _≡_ {A = ℕ} 0 1 = cc in absurd (omega arith)
-
-passed : (test : Bool) (number item : ℕ) (more : Outcome) {size : ℕ} {bytes : List ℕ} → (if not test then refused number item else more) ≡ done size bytes → (test ≡ true) × (more ≡ done size bytes)
-unfolding if_then_else_
-passed true number item more e = (refl, e)
-passed false number item more e = not-done e
-
-into-bytes : (room : ℕ) (xs : List ℕ) {size : ℕ} {bytes : List ℕ} → into room xs ≡ done size bytes → bytes ≡ xs
-unfolding into if_then_else_
-into-bytes room xs {size} {bytes} e = split (ltb room (length xs)) (λ t. not-done (rw t at e)) (λ t. let f : done (length xs) xs ≡ done size bytes = rw t at e in cc)
-
--- the bytes of a value whose numbers fit are read as them
-read-back : (shape : Shape) → Exact shape → (fits : List ℕ → Bool) (ns : List ℕ) → shape .tidy ns ≡ true → fits ns ≡ true → taken fits (whole shape (bytes-of (shape .fields ns))) ≡ done 0 ns
-unfolding ended if_then_else_
-read-back shape exact fits ns tidy fit =
-    let n = length (bytes-of (shape .fields ns)) in
-    let w : whole shape (bytes-of (shape .fields ns)) ≡ got ns n = rw (all-back shape exact ns tidy, eq-eqb n n refl) in
-    taken-done fits w fit
-
--- BACK. What is written of a state is read as its numbers, which are the state's.
+-- BOTH WAYS. What is written of a state is read as its numbers, which are the state's; and bytes from which a run is read are what is written of its state.
 pub state-back : (s : State) → Whole s → (room : ℕ) {size : ℕ} {bytes : List ℕ} → of-state s room ≡ done size bytes → (read-run bytes layout.record-length ≡ done 0 (record-numbers s)) × (record-of (record-numbers s) ≡ s)
 unfolding of-state
-state-back s h room {size} {bytes} e =
-    let ns = record-numbers s in
-    let a = passed (record-fits ns) layout.bad-record 0 _ e in
-    let b = passed (run .tidy ns) bad-run no-item _ (a .1) in
-    let is : bytes ≡ bytes-of (run .fields ns) = into-bytes room (bytes-of (state-fields s)) (b .1) ∙ ap bytes-of (sym (state-fields-are s h)) in
-    (run-taken bytes layout.record-length refl ∙ rw is (read-back run run-exact record-fits ns (b .0) (a .0)), record-back-whole s h (a .0))
+state-back s h room e = let fits = passed (record-fits (record-numbers s)) layout.bad-record 0 _ e .0 in (run-back (record-numbers s) room (state-written s h room refl ∙ e), record-back-whole s h fits)
+
+pub state-only : (ns bytes : List ℕ) (room : ℕ) {size : ℕ} → Bytes bytes → read-run bytes layout.record-length ≡ done size ns → length bytes ≤ room → of-state (record-of ns) room ≡ done (length bytes) bytes
+state-only ns bytes room good e h =
+    let r = run-read ns bytes good e in
+    let f = fits-read ns (r .fit) in
+    let whole : Whole (record-of ns) = record { signals = f .signals-long; visits = f .visits-long; streaks = f .streaks-long; results = f .results-long } in
+    sym (state-written (record-of ns) whole room (sym (record-back ns (r .fit) (r .long ∙ run-width)))) ∙ run-only ns bytes room good e h
 
 -- What is written of an event, whose numbers have 64 bits, is read as them, and they are the event's.
 mark-back : (is : Bool) → eqb (marked is) 1 ≡ is
@@ -189,9 +169,44 @@ module _ (e : Event) (fits : event-fits (event-numbers e) ≡ true) where
       )
 
 pub event-back : (e : Event) → all-below (2 ^ 64) (event-numbers e) ≡ true → (room : ℕ) {size : ℕ} {bytes : List ℕ} → of-event e room ≡ done size bytes → (read-event bytes layout.event-length ≡ done 0 (event-numbers e)) × (event-of (event-call (event-numbers e)) ≡ e)
-unfolding of-event event numbers
-event-back e below room {size} {bytes} o =
-    let a = passed (event-fits (event-numbers e)) layout.bad-call 0 _ o in
-    let tidy = join _ _ (eq-eqb (length (event-numbers e)) layout.event-length (length-event e)) below in
-    let exact = numbers-exact (2 ^ 64) layout.event-length (omega arith) in
-    (event-taken bytes layout.event-length refl ∙ rw (into-bytes room (bytes-of (event-numbers e)) (a .1)) (read-back event exact event-fits (event-numbers e) tidy (a .0)), event-is e (a .0))
+unfolding of-event
+event-back e below room o = let fits = passed (event-fits (event-numbers e)) layout.bad-call 0 _ o .0 in (numbers-back (event-numbers e) room below (event-written e room refl ∙ o), event-is e fits)
+
+-- Numbers of an event that fit are those of the event that is read from them; f gives them by their places.
+mark-again : (x : ℕ) → x < 2 → marked (eqb x 1) ≡ x
+unfolding if_then_else_
+mark-again zero h = refl
+mark-again (suc zero) h = refl
+mark-again (suc (suc x)) h = absurd (omega arith)
+
+module _ (f : ℕ → ℕ) (fits : event-fits (rows f 0 layout.event-length) ≡ true) where
+  numbers-again : event-numbers (event-of (event-call (rows f 0 layout.event-length))) ≡ rows f 0 layout.event-length
+  unfolding event-of event-call event-numbers rows
+  numbers-again =
+      let field = event-field (event-call (rows f 0 layout.event-length)) fits in
+      rw (
+        small (f 2) (field 0 (omega arith)),
+        small (f 3) (field 1 (omega arith)),
+        small (f 4) (field 2 (omega arith)),
+        name-small (f 5) (field 3 (omega arith)),
+        name-small (f 6) (field 4 (omega arith)),
+        small (f 7) (field 5 (omega arith)),
+        name-small (f 8) (field 6 (omega arith)),
+        small (f 9) (field 7 (omega arith)),
+        small (f 10) (field 8 (omega arith)),
+        small (f 11) (field 9 (omega arith)),
+        small (f 12) (field 10 (omega arith)),
+        mark-again (f 13) (field 11 (omega arith)),
+        code-small (f 14) (field 12 (omega arith)),
+        small (f 15) (field 13 (omega arith)),
+        mark-again (f 16) (field 14 (omega arith)),
+        small (f 18) (field 15 (omega arith)),
+      )
+
+pub event-only : (ns bytes : List ℕ) (room : ℕ) {size : ℕ} → Bytes bytes → read-event bytes layout.event-length ≡ done size ns → length bytes ≤ room → of-event (event-of (event-call ns)) room ≡ done (length bytes) bytes
+unfolding event numbers
+event-only ns bytes room good e h =
+    let r = event-read ns bytes good e in
+    let all : rows (λ i. getD ns i 0) 0 layout.event-length ≡ ns = rows-all 0 ns layout.event-length (r .long) in
+    let same : event-numbers (event-of (event-call ns)) ≡ ns = rw all at (numbers-again (λ i. getD ns i 0) (rw (sym all) at (r .fit))) in
+    sym (event-written (event-of (event-call ns)) room (sym same)) ∙ numbers-only ns bytes room good e h
