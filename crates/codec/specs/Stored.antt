@@ -17,6 +17,11 @@ unfoldable pub place-of : {A : Type 0} → Read A → Place
 place-of (got x next) = Place.At next
 place-of bad = Place.Bad
 
+-- Where a reader stands after a number: behind it, or where it stood if the bytes are bad.
+abbrev pub behind : Number → ℕ → ℕ
+behind (Number.Value value next) at = next
+behind Number.Bad at = at
+
 -- What was read stands in the list from a place on, and all else stayed. Of bad bytes nothing is promised: who lends the list doesn't hand it on.
 pub record Stored (read : Read (List ℕ)) (before : List ℕ) (first : ℕ) (after : List ℕ) : Type 0 where
   pub is : (numbers : List ℕ) (next : ℕ) → read ≡ got numbers next → after ≡ splice before first numbers

@@ -5,7 +5,7 @@ ghost use lib.ListN.{length};
 ghost use Rattle.laws.specs.Splice.{splice};
 ghost use Rattle.codec.specs.Leb.{leb128, number-at};
 ghost use Rattle.codec.specs.Numbers.{number-below, limit};
-ghost use Rattle.codec.specs.Stored.{number-of};
+ghost use Rattle.codec.specs.Stored.{number-of, behind};
 ghost use Rattle.codec.specs.Groups.{followed};
 
 // A number and the place behind it; or the bytes there are bad.
@@ -112,6 +112,16 @@ fn number_within(bytes: &[u8], at: usize, small: bool) -> Number
     number_at(bytes, at)
 }
 
+// The place behind a number; the old one where the bytes are bad.
+fn behind(number: Number, at: usize) -> usize
+    ensures { λ r. ⌜ r ≡ behind number at ⌝ }
+{
+    match number {
+        Number::Value { value, next } => next,
+        Number::Bad => at,
+    }
+}
+
 // A reader that stands on lent bytes and moves along them.
 pub struct Reader<'a> {
     pub bytes: &'a [u8],
@@ -125,20 +135,15 @@ impl<'a> Reader<'a> {
         Reader { bytes, at }
     }
 
-    // The field where the reader stands, and the place behind it.
-    pub fn number(self, small: bool) -> Number
-        ensures { λ r. ⌜ r ≡ number-of (number-below (limit small) (now (self .entry .bytes)) (self .entry .at)) ⌝ }
+    // Takes the field where the reader stands and moves on behind it. Where the bytes are bad it stays.
+    pub fn take(&mut self, small: bool) -> Number
+        ensures { λ r. ⌜ r ≡ number-of (number-below (limit small) (now (now (self .entry) .bytes)) (now (self .entry) .at)) ⌝ }
+        ensures { λ r. ⌜ (now (self .exit) .bytes ≡ now (self .entry) .bytes) × (now (self .exit) .at ≡ behind r (now (self .entry) .at)) ⌝ }
     {
-        number_within(self.bytes, self.at, small)
-    }
-
-    pub fn moved(self, at: usize) -> Reader<'a>
-        ensures { λ r. ⌜ (r .bytes ≡ self .entry .bytes) × (r .at ≡ at) ⌝ }
-    {
-        Reader {
-            bytes: self.bytes,
-            at,
-        }
+        let at = self.at;
+        let number = number_within(self.bytes, at, small);
+        self.at = behind(number, at);
+        number
     }
 }
 
@@ -146,7 +151,8 @@ impl<'a> Reader<'a> {
 pub fn field(bytes: &[u8], at: usize, small: bool) -> Number
     ensures { λ number. ⌜ number ≡ number-of (number-below (limit small) (now (bytes .entry)) at) ⌝ }
 {
-    Reader::new(bytes, at).number(small)
+    let mut reader = Reader::new(bytes, at);
+    reader.take(small)
 }
 
 // How many bytes a number takes.
