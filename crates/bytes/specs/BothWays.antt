@@ -2,12 +2,12 @@
 use mathlib.Core.Path.{_≡_, refl, sym, ap, _∙_}
 use mathlib.Core.Bool.{Bool, true, false, not}
 use mathlib.Core.List.{List, _++_, append-nil}
-use Prim.Native.Nat.{ℕ, _^_, _≤_}
+use Prim.Native.Nat.{ℕ, _*_, _^_, _≤_, _<_}
 use native.Mathlib.Omega.{arith}
 use lib.Dec.{ltb, eqb}
 use lib.ListN.{length}
 use lib.Seq.{drop-length}
-use borrow.Author.Tests.{eq-eqb, eqb-true}
+use borrow.Author.Tests.{eq-eqb, ne-eqb, eqb-true}
 use Rattle.laws.specs.Bool.{if_then_else_, split, join}
 use Rattle.workflow.specs.Layout.{numbers as sheet-length}
 use Rattle.host.specs.Layout as layout
@@ -16,13 +16,16 @@ use Rattle.codec.specs.Read.{Read, got, bad}
 use Rattle.codec.specs.Numbers.{bytes-of, all-below}
 use Rattle.codec.specs.Stages.{Shape, numbers}
 use Rattle.codec.specs.Exact.{Bytes, Exact}
+use Rattle.codec.specs.ColumnsLaws.{exact-few}
 use Rattle.bytes.specs.Sheet.{sheet}
 use Rattle.bytes.specs.SheetLaws.{sheet-exact, sheet-width}
 use Rattle.bytes.specs.Run.{run}
 use Rattle.bytes.specs.RunLaws.{run-exact, run-width}
 use Rattle.bytes.specs.Event.{event, event-fits}
-use Rattle.bytes.specs.CallLaws.{event-exact}
-use Rattle.bytes.specs.Boundary.{bad-form, bad-run, no-item, Outcome, done, refused, into, write-sheet, write-run, write-event, ended, whole, taken, read-sheet, read-run, read-event}
+use Rattle.bytes.specs.Call.{call}
+use Rattle.bytes.specs.CallLaws.{event-exact, call-exact}
+use Rattle.bytes.specs.Boundary.{bad-form, bad-run, no-item, Outcome, done, refused, into, write-sheet, write-run, write-event, ended, whole, taken, read-sheet, read-run, read-event, unread, decide}
+use Rattle.bytes.specs.DecideLaws.{call-width, decide-bad}
 use Rattle.bytes.specs.BoundaryLaws.{all-back, into-done, sheet-into, run-into, event-into, taken-done, sheet-taken, run-taken, event-taken}
 
 -- WHAT IS DONE: no test refused it, and there was room.
@@ -122,3 +125,20 @@ unfolding event numbers
 event-only ns bytes room good e h =
     let r = event-read ns bytes good e in
     event-into ns room (r .long) (r .fit) ∙ rw (← r .are) (into-done room bytes refl h)
+
+-- NO LONGER: ten bytes for each number that a shape has are the most. Longer bytes are bad, of a call too.
+module _ (shape : Shape) (exact : Exact shape) (bytes : List ℕ) (good : Bytes bytes) (long : 10 * shape .width < length bytes) where
+  longer : (r : Read (List ℕ)) → shape .read bytes 0 ≡ r → ended (length bytes) r ≡ bad
+  unfolding ended if_then_else_
+  longer bad e = refl
+  longer (got ns next) e =
+      let is = exact .only bytes ns 0 next good e in
+      let p = is .place in
+      let f = exact-few shape exact ns (exact .long ns (is .tidy)) in
+      rw (ne-eqb next (length bytes) (λ q. omega arith))
+
+  too-long : whole shape bytes ≡ bad
+  too-long = longer (shape .read bytes 0) refl
+
+pub long-call : (bytes : List ℕ) → Bytes bytes → 51250 < length bytes → decide bytes ≡ unread
+long-call bytes good long = let w = call-width in decide-bad bytes (too-long call call-exact bytes good (omega arith))

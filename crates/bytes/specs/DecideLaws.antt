@@ -95,7 +95,7 @@ unfolding ended
 ended-bad size e = rw e
 
 -- THE LENGTHS of what was read.
-call-width : call .width ≡ layout.call-has-record + sheet-length + the-rest .room
+pub call-width : call .width ≡ layout.call-has-record + sheet-length + the-rest .room
 unfolding call staged beside numbers widths
 call-width = refl
 

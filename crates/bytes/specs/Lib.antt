@@ -19,6 +19,6 @@ pub mod RestSteps
 pub mod CallSteps
 pub mod EventLaws
 pub mod BoundaryLaws
+pub mod DecideLaws
 pub mod BothWays
 pub mod StructsLaws
-pub mod DecideLaws

@@ -2,28 +2,27 @@
 use mathlib.Core.Path.{_≡_, refl, sym, ap, _∙_}
 use mathlib.Core.Bool.{Bool, true, false, _&&_}
 use mathlib.Core.List.{List, [], _∷_, _++_, append-assoc}
-use Prim.Native.Nat.{ℕ, zero, suc, _+_, _*_, _-_, _^_, _≤_, _<_, min}
-use native.Mathlib.Nat.{mul-suc}
+use Prim.Native.Nat.{ℕ, suc, _+_, _*_, _-_, _^_, _≤_, _<_, min}
 use native.Mathlib.Omega.{arith}
-use lib.Dec.{eqb, leb}
-use lib.ListN.{length, getD, take, drop, replicate, length-append, length-take, length-drop, length-replicate, take-append-drop}
+use lib.Dec.{leb}
+use lib.ListN.{length, getD, replicate, length-append, length-replicate, take-append-drop}
 use lib.Seq.{take-all}
 use borrow.Author.Tests.{eq-eqb, leb-true, leb-false}
 use Rattle.laws.specs.All.{All}
-use Rattle.laws.specs.Bool.{if_then_else_, split, _and_}
+use Rattle.laws.specs.Bool.{split, _and_}
 use Rattle.codec.specs.declared.numbers.Place.{Place}
 use Rattle.codec.specs.Read.{Read, bad}
 use Rattle.codec.specs.Numbers.{bytes-of, numbers-at, part}
-use Rattle.codec.specs.Stages.{Stage, widths, numbers, column, beside, all-zero}
-use Rattle.codec.specs.Slots.{slot, slots}
+use Rattle.codec.specs.Stages.{Stage, widths, numbers, column, all-zero}
+use Rattle.codec.specs.Slots.{slots}
 use Rattle.codec.specs.Stored.{place-of, Stored}
 use Rattle.codec.specs.Exact.{Bytes, Exact, bytes-append}
 use Rattle.codec.specs.Loops.{Bytes-first}
 use Rattle.codec.specs.NumbersLaws.{numbers-exact}
 use Rattle.codec.specs.Parts.{part-long, part-front, part-back, part-below}
-use Rattle.codec.specs.PartLaws.{part-few, getD-part, length-part}
+use Rattle.codec.specs.PartLaws.{getD-part, length-part}
 use Rattle.codec.specs.SlotsLaws.{slots-width, slots-exact}
-use Rattle.codec.specs.ColumnsLaws.{column-exact, Stage-exact, staged-width, staged-exact, bytes-few}
+use Rattle.codec.specs.ColumnsLaws.{column-exact, Stage-exact, staged-width, staged-exact, exact-few}
 use Rattle.codec.specs.ColumnsLoops.{column-over, column-place, column-stored, used-part, column-neat, column-crowded}
 use Rattle.host.specs.Layout as layout
 use Rattle.bytes.specs.Run.{single-numbers, stored-signals, all-visits, all-streaks, all-results, run}
@@ -135,38 +134,6 @@ three true true true = refl
 three true true false = refl
 three true false c = refl
 three false b c = refl
-
--- How many numbers of slots stand in the bytes.
-module _ (top before after : ℕ) where
-  slot-few : (ns : List ℕ) → length ns ≤ before + suc after → length (slot top before after .fields ns) ≤ before + suc after
-  unfolding slot if_then_else_
-  slot-few ns h =
-      split (eqb (getD ns before 0) 0) (λ z. rw z (omega arith))
-      (λ z.
-      let t = length-take before ns in
-      let d = length-drop (suc before) ns in
-      let a = length-append (take before ns) (drop (suc before) ns) in
-      rw z (omega arith))
-
-  slots-few : (k : ℕ) (ns : List ℕ) → length ns ≤ (before + suc after) * k → length (slots top before after k .fields ns) ≤ (before + suc after) * k
-  unfolding slots numbers beside slot
-  slots-few zero ns h = h
-  slots-few (suc k) ns h =
-      let m = mul-suc (before + suc after) k in
-      let t = length-take (before + suc after) ns in
-      let d = length-drop (before + suc after) ns in
-      let a = slot-few (take (before + suc after) ns) (omega arith) in
-      let b = slots-few k (drop (before + suc after) ns) (omega arith) in
-      rw length-append (omega arith)
-
-  slots-bytes-few : (k : ℕ) (xs : List ℕ) (i : ℕ) → length (bytes-of (slots top before after k .fields (part xs i (i + (before + suc after) * k)))) ≤ 10 * ((before + suc after) * k)
-  unfolding part
-  slots-bytes-few k xs i =
-      let ns = part xs i (i + (before + suc after) * k) in
-      let t = length-take (i + (before + suc after) * k - i) (drop i xs) in
-      let a = slots-few k ns (omega arith) in
-      let b = bytes-few (slots top before after k .fields ns) in
-      omega arith
 
 -- IN A LIST, from a place on.
 module _ (xs : List ℕ) (at : ℕ) (room : at + layout.record-length ≤ length xs) where
@@ -320,11 +287,4 @@ module _ (xs : List ℕ) (at : ℕ) (room : at + layout.record-length ≤ length
   run-sizes = rw (run-first refl .is, length-append, length-append, length-append, length-append) (omega arith)
 
   pub run-few : length (bytes-of (run .fields (part xs at (at + layout.record-length)))) ≤ 10 * layout.record-length
-  run-few =
-      let e : at + layout.record-visits + layout.nodes ≡ at + layout.record-streaks = omega arith in
-      let a = part-few xs at (layout.record-signals + layout.signal-width * min stored layout.store) in
-      let b = rw e at (part-few xs (at + layout.record-visits) layout.nodes) in
-      let c = slots-bytes-few (2 ^ 64) 1 0 layout.nodes xs (at + layout.record-streaks) in
-      let d = slots-bytes-few (2 ^ 64) 2 3 layout.nodes xs (at + layout.record-results) in
-      let s = run-sizes in
-      omega arith
+  run-few = rw run-width at (exact-few run run-exact (part xs at (at + layout.record-length)) (part-long xs at layout.record-length room ∙ sym run-width))

@@ -18,10 +18,9 @@ use Rattle.codec.specs.Stored.{place-of, Stored, Zero-from}
 use Rattle.codec.specs.Exact.{Bytes, Exact}
 use Rattle.codec.specs.NumbersLaws.{numbers-exact, numbers-long}
 use Rattle.codec.specs.Parts.{part-long, part-below}
-use Rattle.codec.specs.PartLaws.{part-few}
 use Rattle.codec.specs.StoredLaws.{at-got, at-bad, bad-place, bad-stored}
 use Rattle.codec.specs.ShapesLoops.{Reading-shapes, reading-start, reading-long, reading-room, reading-bad, reading-more, reading-place, reading-stored, held, neat, written, neat-next, neat-none, written-next, written-none}
-use Rattle.codec.specs.ColumnsLaws.{Stage-exact, staged-exact, staged-width, columns-exact, columns-width, columns-few}
+use Rattle.codec.specs.ColumnsLaws.{Stage-exact, staged-exact, staged-width, columns-exact, columns-width, exact-few}
 use Rattle.bytes.specs.Sheet.{rooms, used, single-numbers, all-columns, sheet}
 
 -- BOTH WAYS.
@@ -209,10 +208,4 @@ module _ (w : List ℕ) (long : length w ≡ layout.numbers) where
             e ∙ rw (is, sheet-bytes) (splice-more out 0 head-bytes column-bytes place behind (omega arith))
 
   pub sheet-few : length (bytes-of (sheet .fields w)) ≤ 10 * layout.numbers
-  unfolding total
-  sheet-few =
-      let n = sheet-size refl in
-      let h = part-few w 0 layout.node-kind in
-      let l = part-long w layout.node-kind (total rooms) (omega arith) in
-      let f = columns-few (2 ^ 32) rooms (used w) columns-held in
-      omega arith
+  sheet-few = rw sheet-width at (exact-few sheet sheet-exact w (long ∙ sym sheet-width))

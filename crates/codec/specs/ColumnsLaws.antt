@@ -1,5 +1,5 @@
 -- Columns and stages, both ways: what is written is read back, and only what is written is read.
-use mathlib.Core.Path.{_≡_, refl, ap, _∙_}
+use mathlib.Core.Path.{_≡_, refl, _∙_}
 use mathlib.Core.Bool.{true}
 use mathlib.Core.List.{List, [], _∷_, _++_, flatMap}
 use Prim.Native.Nat.{ℕ, _+_, _*_, _-_, _^_, _≤_}
@@ -14,7 +14,7 @@ use Rattle.laws.specs.Listing.{padded}
 use Rattle.laws.specs.All.{All}
 use Rattle.codec.specs.Read.{Read, got, bad, onward}
 use Rattle.codec.specs.Numbers.{bytes-of, numbers-at, all-below}
-use Rattle.codec.specs.Stages.{numbers, column, beside, total, columns, Stage, widths, staged, all-zero}
+use Rattle.codec.specs.Stages.{Shape, numbers, column, beside, total, columns, Stage, widths, staged, all-zero}
 use Rattle.codec.specs.Exact.{Bytes, Is-read, Exact, not-bad, beside-exact}
 use Rattle.codec.specs.LebLaws.{leb-few}
 use Rattle.codec.specs.NumbersLaws.{numbers-exact}
@@ -94,6 +94,7 @@ module _ (top room used : ℕ) where
     column-exact =
         record {
           long = λ ns h. tidy-column ns h .long;
+          few = λ ns h. let n = length-take used ns in omega arith;
           back = λ bytes rest ns at h e. back bytes rest ns at (tidy-column ns h) e;
           only = only;
         }
@@ -118,18 +119,8 @@ unfolding flatMap
 bytes-few [] = omega arith
 bytes-few (n ∷ ns) = let a = leb-few n in let b = bytes-few ns in rw (length-append, mul-suc) (omega arith)
 
-fields-few : (top : ℕ) (rooms used ns : List ℕ) → length (columns top rooms used .fields ns) ≤ length ns
-unfolding columns numbers beside column
-fields-few top [] used ns = omega arith
-fields-few top (room ∷ rooms) used ns =
-    let t = length-take (getD used 0 0) (take room ns) in
-    let f = fields-few top rooms (drop 1 used) (drop room ns) in
-    let a = length-append (take room ns) (drop room ns) in
-    let e : length (take room ns ++ drop room ns) ≡ length ns = ap length (take-append-drop room ns) in
-    rw length-append (omega arith)
-
-pub columns-few : (top : ℕ) (rooms used ns : List ℕ) → length (bytes-of (columns top rooms used .fields ns)) ≤ 10 * length ns
-columns-few top rooms used ns = let a = bytes-few (columns top rooms used .fields ns) in let b = fields-few top rooms used ns in omega arith
+pub exact-few : (shape : Shape) → Exact shape → (ns : List ℕ) → length ns ≡ shape .width → length (bytes-of (shape .fields ns)) ≤ 10 * shape .width
+exact-few shape exact ns h = let a = bytes-few (shape .fields ns) in let b = exact .few ns h in omega arith
 
 -- STAGES. Each is exact and as wide as its room, whatever stands before it; so they are together.
 pub record Stage-exact (stage : Stage) : Type 0 where

@@ -23,7 +23,8 @@ use Rattle.codec.specs.Zeros.{padded-long, splice-padded}
 use Rattle.codec.specs.Parts.{part-long, part-front, part-back, part-below, every-take}
 use Rattle.codec.specs.StoredLaws.{at-got, at-bad}
 use Rattle.codec.specs.ShapesLoops.{Reading-shapes, reading-start, reading-long, reading-room, reading-bad, reading-more, reading-place, reading-stored, neat, written, neat-next, neat-none, Ahead, Step, step, Writing-shapes, writing-start, writing-long, writing-room, writing-more, writing-place, writing-end, Counting-shapes, counting-more, counting-end}
-use Rattle.codec.specs.ColumnsLaws.{tidy-column, column-read, columns-width, bytes-few}
+use Rattle.codec.specs.ColumnsLaws.{tidy-column, column-read, columns-width}
+use Rattle.codec.specs.PartLaws.{part-few}
 
 -- THE SHAPE THAT IS LEFT at column c.
 abbrev left-at : (top : ℕ) (rooms used : List ℕ) (c : ℕ) → Shape
@@ -112,10 +113,6 @@ module _ (top room used : ℕ) (xs : List ℕ) (i : ℕ) where
   pub column-crowded : room < used → i + room ≤ length xs → column top room used .tidy (part xs i (i + room)) ≡ false
   unfolding column _and_
   column-crowded over h = rw (eq-eqb (length (part xs i (i + room))) room (part-long xs i room h), lt-leb used room over)
-
--- At most ten bytes a number.
-part-few : (xs : List ℕ) (i k : ℕ) → i + k ≤ length xs → length (bytes-of (part xs i (i + k))) ≤ 10 * k
-part-few xs i k h = let n = part-long xs i k h in rw n at (bytes-few (part xs i (i + k)))
 
 -- THE LOOP THAT READS, at column c.
 pub record Reading-columns (top : ℕ) (rooms used bytes : List ℕ) (whole : Read (List ℕ)) (before : List ℕ) (first at i c : ℕ) (list : List ℕ) : Type 0 where
@@ -248,7 +245,7 @@ module _ {top : ℕ} {rooms used xs whole : List ℕ} {i c size : ℕ} (inv : Co
     count-few =
         let l = tidy-low (inv .tidy) h in
         let r = tidy-room (inv .tidy) h in
-        let f = part-few xs i (getD used c 0) (omega arith) in
+        let f = part-few xs i (getD used c 0) in
         let g = inv .counting .few in
         omega arith
 
@@ -257,7 +254,7 @@ module _ {top : ℕ} {rooms used xs whole : List ℕ} {i c size : ℕ} (inv : Co
     count-more {s} e =
         let l = tidy-low (inv .tidy) h in
         let r = tidy-room (inv .tidy) h in
-        let f = part-few xs i (getD used c 0) (omega arith) in
+        let f = part-few xs i (getD used c 0) in
         record {
           tidy = tidy-more (inv .tidy) h;
           counting = counting-more (inv .counting) _ _ _ (left-next top rooms used c h) (columns-width top (drop (c + 1) rooms) (drop (c + 1) used)) (rw (tidy-bytes (inv .tidy) h) e) (omega arith);

@@ -1,15 +1,13 @@
--- Both ways: what is written is read back, and only what is written is read.
+-- Both ways: what is written is read back, and only what is written is read. And no more of a list's numbers stand in the bytes than it has.
 use mathlib.Core.Path.{_≡_, refl, sym, ap, _∙_}
-use mathlib.Core.Bool.{Bool, true, false}
+use mathlib.Core.Bool.{true}
 use mathlib.Core.List.{List, [], _∷_, _++_, flatMap, append-assoc}
-use Prim.Native.Nat.{ℕ, zero, suc, _+_, _-_, _^_, _≤_, _<_}
+use Prim.Native.Nat.{ℕ, _+_, _≤_, _<_}
 use native.Mathlib.Omega.{arith}
-use lib.Dec.{eqb}
-use lib.ListN.{length, getD, take, drop, length-append, take-append-drop}
-use lib.Seq.{take-at, drop-at, drop-drop}
-use borrow.Author.Tests.{eqb-true}
-use Rattle.laws.specs.Bool.{if_then_else_, _and_, both, join}
-use Rattle.codec.specs.Read.{Read, got, bad, onward, tested}
+use lib.ListN.{length, getD, take, drop, length-append, length-drop, take-append-drop}
+use lib.Seq.{length-take-le, take-at, drop-at, drop-drop}
+use Rattle.laws.specs.Bool.{_and_, both, join}
+use Rattle.codec.specs.Read.{Read, got, bad, onward}
 use Rattle.codec.specs.Leb.{leb128}
 use Rattle.codec.specs.Numbers.{bytes-of}
 use Rattle.codec.specs.Stages.{Shape, beside}
@@ -26,6 +24,7 @@ pub record Is-read (shape : Shape) (bytes : List ℕ) (at : ℕ) (ns : List ℕ)
 
 pub record Exact (shape : Shape) : Type 0 where
   pub long : (ns : List ℕ) → shape .tidy ns ≡ true → length ns ≡ shape .width
+  pub few : (ns : List ℕ) → length ns ≡ shape .width → length (shape .fields ns) ≤ shape .width
   pub back : (bytes rest ns : List ℕ) (at : ℕ) → shape .tidy ns ≡ true → drop at bytes ≡ bytes-of (shape .fields ns) ++ rest → shape .read bytes at ≡ got ns (at + length (bytes-of (shape .fields ns)))
   pub only : (bytes ns : List ℕ) (at next : ℕ) → Bytes bytes → shape .read bytes at ≡ got ns next → Is-read shape bytes at ns next
 
@@ -53,6 +52,16 @@ module _ (one : Shape) (more : List ℕ → Shape) (width : ℕ) (first : Exact 
       let e : length (take (one .width) ns ++ drop (one .width) ns) ≡ length ns = ap length (take-append-drop (one .width) ns) in
       let l = length-append (take (one .width) ns) (drop (one .width) ns) in
       omega arith
+
+  few : (ns : List ℕ) → length ns ≡ both-shapes .width → length (both-shapes .fields ns) ≤ both-shapes .width
+  unfolding beside
+  few ns h =
+      let n = length-take-le (one .width) ns (omega arith) in
+      let d = length-drop (one .width) ns in
+      let w = wide (take (one .width) ns) in
+      let a = first .few (take (one .width) ns) n in
+      let b = second (take (one .width) ns) .few (drop (one .width) ns) (omega arith) in
+      rw length-append (omega arith)
 
   back : (bytes rest ns : List ℕ) (at : ℕ) → both-shapes .tidy ns ≡ true → drop at bytes ≡ bytes-of (both-shapes .fields ns) ++ rest → both-shapes .read bytes at ≡ got ns (at + length (bytes-of (both-shapes .fields ns)))
   unfolding beside onward
@@ -101,4 +110,4 @@ module _ (one : Shape) (more : List ℕ → Shape) (width : ℕ) (first : Exact 
     only e = by-first (one .read bytes at) refl e
 
   pub beside-exact : Exact both-shapes
-  beside-exact = record { long = long; back = back; only = only }
+  beside-exact = record { long = long; few = few; back = back; only = only }

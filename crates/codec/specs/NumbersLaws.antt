@@ -152,4 +152,4 @@ module _ (top k : ℕ) where
 
 pub numbers-exact : (top k : ℕ) → top ≤ 2 ^ 64 → Exact (numbers top k)
 unfolding numbers
-numbers-exact top k small = record { long = tidy-long top k; back = exact-back top k small; only = exact-only top k }
+numbers-exact top k small = record { long = tidy-long top k; few = λ ns h. omega arith; back = exact-back top k small; only = exact-only top k }

@@ -46,6 +46,21 @@ used-bytes : (lead : ℕ) (xs ys : List ℕ) → bytes-of (lead ∷ xs ++ ys) �
 unfolding flatMap
 used-bytes lead xs ys = rw (bytes-append xs ys)
 
+-- How many bytes it takes: at most ten a number.
+module _ (top before after : ℕ) (ns : List ℕ) where
+  fields-few : length ns ≤ before + suc after → length (slot top before after .fields ns) ≤ before + suc after
+  unfolding slot if_then_else_
+  fields-few h =
+      let t = length-take before ns in
+      let d = length-drop (suc before) ns in
+      split (eqb (getD ns before 0) 0) (λ z. rw z (omega arith)) (λ z. rw (z, length-append) (omega arith))
+
+  pub slot-few : length ns ≤ before + suc after → length (bytes-of (slot top before after .fields ns)) ≤ 10 * (before + suc after)
+  slot-few h =
+      let a = bytes-few (slot top before after .fields ns) in
+      let b = fields-few h in
+      omega arith
+
 -- What the bytes hold: where the lead is 0 nothing more, else the numbers before it and those after it.
 module _ (top before after : ℕ) (small : top ≤ 2 ^ 64) where
   abbrev used : List ℕ → (lead p : ℕ) → Read (List ℕ)
@@ -164,7 +179,8 @@ module _ (top before after : ℕ) (small : top ≤ 2 ^ 64) where
         only-used (a .value) (a .place) i z (b .value) (b .place) j (c .value) (c .place) k (c .two))
 
   pub slot-exact : Exact (slot top before after)
-  slot-exact = record { long = tidy-long; back = back; only = only }
+  unfolding slot
+  slot-exact = record { long = tidy-long; few = λ ns h. fields-few top before after ns (omega arith); back = back; only = only }
 
 -- How many numbers are read.
 module _ (top before after : ℕ) (bytes ns : List ℕ) (at next : ℕ) where
@@ -187,21 +203,6 @@ module _ (top before after : ℕ) (bytes ns : List ℕ) (at next : ℕ) where
       let n₂ = numbers-long top bytes after (b .place) (c .value) (c .place) (c .one) in
       rw (← x, length-append) (omega arith))
 
--- How many bytes it takes: at most ten a number.
-module _ (top before after : ℕ) (ns : List ℕ) where
-  fields-few : length ns ≤ before + suc after → length (slot top before after .fields ns) ≤ before + suc after
-  unfolding slot if_then_else_
-  fields-few h =
-      let t = length-take before ns in
-      let d = length-drop (suc before) ns in
-      split (eqb (getD ns before 0) 0) (λ z. rw z (omega arith)) (λ z. rw (z, length-append) (omega arith))
-
-  pub slot-few : length ns ≤ before + suc after → length (bytes-of (slot top before after .fields ns)) ≤ 10 * (before + suc after)
-  slot-few h =
-      let a = bytes-few (slot top before after .fields ns) in
-      let b = fields-few h in
-      omega arith
-
 -- SLOTS.
 module _ (top before after : ℕ) where
   pub slots-width : (k : ℕ) → slots top before after k .width ≡ (before + suc after) * k
@@ -214,15 +215,3 @@ module _ (top before after : ℕ) where
   slots-exact zero small = numbers-exact 0 0 (omega arith)
   slots-exact (suc k) small =
       beside-exact (slot top before after) (λ _. slots top before after k) ((before + suc after) * k) (slot-exact top before after small) (λ _. slots-exact k small) (λ _. slots-width k)
-
-  pub slots-few : (k : ℕ) (ns : List ℕ) → length ns ≤ (before + suc after) * k → length (bytes-of (slots top before after k .fields ns)) ≤ 10 * ((before + suc after) * k)
-  unfolding slots numbers beside slot
-  slots-few zero ns h = let a = bytes-few ns in omega arith
-  slots-few (suc k) ns h =
-      let w = before + suc after in
-      let m : w * suc k ≡ w * k + w = rw mul-suc (omega arith) in
-      let t = length-take w ns in
-      let d = length-drop w ns in
-      let a = slot-few top before after (take w ns) (omega arith) in
-      let b = slots-few k (drop w ns) (omega arith) in
-      rw (bytes-append (slot top before after .fields (take w ns)) (slots top before after k .fields (drop w ns)), length-append) (omega arith)
