@@ -208,7 +208,7 @@ extern "C" {
  *   ANSWER_WANT_FIELD   0 input, 1 params, 2 output
  *   note                1 ignored, 2 stale, 3 not applicable, 4 overflow, 5 unrouted, 6 unknown, 7 stuck, 8 retry,
  *                       9 loop exhausted
- *   ending              1 routed, 2 unrouted, 3 overflow, 4 ignored
+ *   ending              1 routed, 2 unrouted, 3 overflow, 4 ignored, 5 left over
  *   kernel's error code 1 visits exceeded, 2 activations exceeded, 3 undeclared outcome, 4 attempts exhausted,
  *                       5 activity failed
  * Times and delays are milliseconds. */

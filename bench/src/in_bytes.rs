@@ -188,7 +188,7 @@ fn stored() -> f64 {
     let scheduled = after(&start);
     let result = joint::call(&sheet, Some(&scheduled), joint::result(0, 1, 1, 1));
     let first = parts("Joint A", &result, true);
-    let stored = joint::cases()
+    let stored = joint::twelve()
         .into_iter()
         .find(|case| case.name.contains("full store"));
     let stored = stored.expect("a full store").call;

@@ -103,7 +103,7 @@ fn after(call: &Call) -> State {
 }
 
 fn cases() -> Vec<(String, Call)> {
-    let mut cases: Vec<(String, Call)> = joint::cases()
+    let mut cases: Vec<(String, Call)> = joint::twelve()
         .into_iter()
         .map(|case| (format!("Joint A, {}", case.name), case.call))
         .collect();

@@ -172,6 +172,8 @@ pub record Demand3 (sheet : Workflow) (history : List Entry) : Type 0 where
   pub counts-hold : All (λ done. Counts sheet (done .answer .state .visits) (done .answer .state .activations)) (accepted history)
   -- every signal has its one fate
   pub one-fate : (sequence : ℕ) → Fate (signals sequence (accepted history)) (in-store sequence (standing history)) (endings sequence (accepted history))
+  -- of an ended run nothing is stored (document 02, T-02): so each of its signals has its one ending
+  pub none-left : All (λ done. is-terminal (done .answer .state .status) ≡ true → stored (done .answer .state) ≡ []) (accepted history)
   -- an ended run changes only in last sequence and last accepted time
   pub frozen : Frozen (accepted history)
   -- no call, wants and refusals included, comes to more than 130 microsteps
@@ -191,3 +193,9 @@ Ordered-before (done ∷ before) = All (λ it. In it (ordered before)) (applied-
 
 abbrev pub applied-were-ordered : Type 0
 applied-were-ordered = (sheet : Workflow) (calls : List Call) → Ordered-before (accepted (history sheet [] calls))
+
+-- Every signal of an ended run has ended.
+abbrev pub all-ended : Type 0
+all-ended =
+    (sheet : Workflow) (calls : List Call) (state : State) → standing (history sheet [] calls) ≡ last state → is-terminal (state .status) ≡ true
+    → (sequence : ℕ) → endings sequence (accepted (history sheet [] calls)) ≡ signals sequence (accepted (history sheet [] calls))

@@ -47,7 +47,7 @@ unfolding every
 every-front p [] ys g = refl
 every-front p (x ∷ xs) ys g = let h = both _ _ g in join _ _ (h .0) (every-front p xs ys (h .1))
 
-ends-append : (q : ℕ) (xs ys : List Ending) → ends q (xs ++ ys) ≡ ends q xs + ends q ys
+pub ends-append : (q : ℕ) (xs ys : List Ending) → ends q (xs ++ ys) ≡ ends q xs + ends q ys
 unfolding ends
 ends-append q [] ys = omega arith
 ends-append q (x ∷ xs) ys = omega (arith, ends-append q xs ys)

@@ -19,13 +19,14 @@ use Rattle.model.specs.declared.InvocationState.{InvocationState}
 use Rattle.model.specs.declared.event.Event.{Event}
 use Rattle.model.specs.declared.answer.Order.{Order}
 use Rattle.workflow.specs.Code.{none}
-use Rattle.model.specs.Code.{scheduled, signal-received, activity-result}
+use Rattle.model.specs.Code.{running, scheduled, signal-received, activity-result}
 use Rattle.model.specs.Record.{no-visits, visits-of, is-terminal, seen, fresh}
-use Rattle.model.specs.Store.{listed, stored}
+use Rattle.model.specs.Store.{listed, stored, leaves-over}
 use Rattle.snapshot.specs.Check.{consistent}
 use Rattle.machine.specs.Events.{named, applies}
 use Rattle.demand3.specs.Words.{is-it, times, total, Counts, plain}
 use Rattle.demand3.specs.Tidy.{Sized}
+use Rattle.demand3.specs.Closed.{none-left-empty, checked-none-left}
 use Rattle.demand3.specs.Opened.{its-attempt, Opened, closed, orders-it, as-before}
 use Rattle.demand3.specs.Keep.{base, heard, opens, rise, Heard, heard-is, Ready, nothing, Lives, Standing, gone, anew, stays, Stands, New, Ordering}
 use Rattle.kernel.specs.Call.{Accepted}
@@ -56,6 +57,7 @@ pub record History (f : Workflow) (ds : List Done) (s : State) : Type 0 where
   pub counts : Counts f (s .visits) (s .activations)
   pub all-counts : All (λ d. Counts f (d .answer .state .visits) (d .answer .state .activations)) ds
   pub all-checked : All (λ d. consistent f (d .answer .state) ≡ true) ds
+  pub none-left : leaves-over (s .status) (s .«signal_count») ≡ false
   pub ordered-once : Distinct (ordered ds)
   pub below-ordered : All (Below s 0 (s .invocation .attempt)) (ordered ds)
   pub applied-once : Distinct (applied ds)
@@ -78,6 +80,7 @@ fresh-history f x =
       counts = record { sum = refl; each = all-replicate (λ (v : Visits). v .count ≤ f .max-visits-per-node) 64 no-visits (omega arith); few = omega arith };
       all-counts = tt;
       all-checked = tt;
+      none-left = none-left-empty running;
       ordered-once = tt;
       below-ordered = tt;
       applied-once = tt;
@@ -261,6 +264,7 @@ module _ (f : Workflow) (ds : List Done) (s : State) (st : History f ds s) (e : 
         counts = fact .live .counts;
         all-counts = (fact .live .counts, st .all-counts);
         all-checked = (fact .checked, st .all-checked);
+        none-left = checked-none-left f (a .state) (fact .checked);
         ordered-once = orders-once (a .order) (fact .orders) .0;
         below-ordered = orders-once (a .order) (fact .orders) .1;
         applied-once = applied-now .0;

@@ -1,4 +1,4 @@
--- Joint A of document 01: its twelve cases as one computed table over the definition of the call.
+-- Joint A of document 01: its twelve cases, and those of document 02, as one computed table over the definition of the call.
 use mathlib.Core.Path.{_≡_, refl, sym, subst, fun-ext}
 use mathlib.Core.Bool.{Bool, true, false}
 use mathlib.Core.List.{List, [], _∷_, _++_, map}
@@ -7,6 +7,7 @@ use lib.ListN.{getD, replicate}
 use Rattle.workflow.specs.View.{Workflow, workflow}
 use Rattle.joint_a.specs.Sheet.{numbers}
 use Rattle.joint_a.specs.SheetLaws.{sheet, is-sheet}
+use Rattle.model.specs.declared.BufferedSignal.{BufferedSignal}
 use Rattle.model.specs.declared.State.{State}
 use Rattle.model.specs.declared.event.Event.{Event}
 use Rattle.model.specs.declared.answer.Note.{Note}
@@ -15,7 +16,7 @@ use Rattle.model.specs.Record.{no-node-result, streak-of, set-signals}
 use Rattle.model.specs.Answers.{output-numbers, kept-numbers, params-numbers, order-numbers}
 use Rattle.kernel.specs.declared.Call.{Call}
 use Rattle.kernel.specs.Call.{Answer, next, wants, refused, Last, no-record, last}
-use Rattle.demand3.specs.Demand3.{Entry, standing, history}
+use Rattle.demand3.specs.Demand3.{Entry, standing, history, dated}
 use Rattle.laws.specs.Bool.{if_then_else_, _and_, _or_}
 use Rattle.laws.specs.Rows.{rows, span}
 use Rattle.laws.specs.First.{first}
@@ -28,28 +29,35 @@ use Rattle.graph.specs.Rules.{reserved, declared-twice, breaks-7, unrouted, ext
 use Rattle.graph.specs.Sets.{pass, repeated, with-ends, reached, reaching-end}
 use Rattle.graph.specs.Verdict.{rule-at, is-broken, first-broken, actions-verdict, verdict}
 use Rattle.model.specs.Record.{is-terminal}
-use Rattle.model.specs.Store.{listed, first-signal, signal-at, removed, appended, signals-fit}
+use Rattle.model.specs.Store.{listed, first-signal, signal-at, removed, appended, leaves-over, left-over, emptied, signals-fit}
 use Rattle.model.specs.Step.{answer as mapping-answer, terminate, evaluate, schedule, enter-activity, enter-await, enter-complete, arrive, enter, follow-to, route-limited, route, take-by, retry}
 use Rattle.machine.specs.Events.{named, named-node, applies, not-applicable, complete-invocation, stick, fail-invocation, on-signal, on-success, on-failure, on-unknown, on-result, resolve-as-complete, resolve-as-fail, on-resolved, on-ended, react}
 use Rattle.snapshot.specs.EventCheck.{event-fits}
 use Rattle.snapshot.specs.Check.{counters-fit, slots-fit, stands, consistent}
 use Rattle.kernel.specs.Drive.{operations-of, added, counting, consume-by, advance-by, driven}
-use Rattle.kernel.specs.Call.{finish-by, start-stage, next-stage, admission, transition-by, transition}
+use Rattle.kernel.specs.Call.{closed, finish-by, start-stage, next-stage, admission, transition-by, transition}
 
 -- THE CALLS. Unless named, the microstep limit is 130, the four ceilings 64, the command and operation limits 10, times 0, and every call carries one value of 0 operations.
-event : (kind sequence time signal outcome visit attempt status delay : ℕ) → (retryable : Bool) → Event
-event k q t g o v a z d y =
-    record { sequence = q; «accepted_at» = t; delay = d; «event_id» = 100 + q; kind = k; input = 9; signal = g; outcome = o; «data» = 8; node = 0; visit = v; attempt = a; status = z; output = 7; code = 0; detail = 0; resolution = 0; «has_error» = false; retryable = y }
+event : (kind sequence time signal outcome visit attempt status delay resolution : ℕ) → (retryable : Bool) → Event
+event k q t g o v a z d r y =
+    record { sequence = q; «accepted_at» = t; delay = d; «event_id» = 100 + q; kind = k; input = 9; signal = g; outcome = o; «data» = 8; node = 0; visit = v; attempt = a; status = z; output = 7; code = 0; detail = 0; resolution = r; «has_error» = false; retryable = y }
 
 start : Event
-start = event 1 1 0 0 0 0 0 0 0 false
+start = event 1 1 0 0 0 0 0 0 0 0 false
 
 signal : (sequence signal outcome : ℕ) → Event
-signal q g o = event 2 q 0 g o 0 0 0 0 false
+signal q g o = event 2 q 0 g o 0 0 0 0 0 false
+
+-- an operator's fail, of visit 1
+failed : (sequence : ℕ) → Event
+failed q = event 4 q 0 0 0 1 0 0 0 3 false
+
+noted : (sequence : ℕ) → Event
+noted q = event 5 q 0 0 0 0 0 0 0 0 false
 
 -- of attempt 1
 result : (sequence time visit status delay : ℕ) → (retryable : Bool) → Event
-result q t v z d y = event 3 q t 0 255 v 1 z d y
+result q t v z d y = event 3 q t 0 255 v 1 z d 0 y
 
 call : (microsteps commands : ℕ) → Event → Call
 call l k e =
@@ -96,10 +104,13 @@ newest : List Entry → Answer
 newest [] = refused 0 0
 newest (x ∷ h) = x .said
 
--- The record that stands after some calls, with 64 of signal 6 stored; and the answer to a call on it.
+-- The record that stands after some calls, with 64 of signal 6 stored, of the sequence numbers 3 to 66; and the answer to a call on it.
+abbrev sixes : List BufferedSignal
+sixes = rows (λ i. record { sequence = 3 + i; «event_id» = 6; signal = 6; outcome = 255; «data» = 6 }) 0 64
+
 sixty-four : Last → Last
 sixty-four no-record = no-record
-sixty-four (last s) = last (set-signals s (replicate 64 (record { sequence = 2; «event_id» = 6; signal = 6; outcome = 255; «data» = 6 })) 64)
+sixty-four (last s) = last (dated (set-signals s sixes 64) 66 0)
 
 -- THE CASES.
 abbrev to-1 : List Call
@@ -128,8 +139,13 @@ going : (place : List ℕ) → (microsteps : ℕ) → (order : List ℕ) → (no
 going place microsteps order notes endings node-1 =
     record { place = place; microsteps = microsteps; order = order; notes = notes; endings = endings; node-1 = node-1; result = replicate 4 0; kept = replicate 4 0 }
 
-again : Seen
-again = going (1 ∷ 0 ∷ 2 ∷ 1 ∷ []) 2 (scheduled 2) [] ((3 ∷ 1 ∷ []) ∷ []) (1 ∷ 4 ∷ [])
+again : (sequence : ℕ) → Seen
+again q = going (1 ∷ 0 ∷ 2 ∷ 1 ∷ []) 2 (scheduled 2) [] ((q ∷ 1 ∷ []) ∷ []) (1 ∷ 4 ∷ [])
+
+-- A run that is completed with the value, by signal 5.
+completed : (microsteps : ℕ) → (notes endings : List (List ℕ)) → Seen
+completed microsteps notes endings =
+    record { place = 4 ∷ 255 ∷ 0 ∷ 0 ∷ []; microsteps = microsteps; order = no-order; notes = notes; endings = endings; node-1 = 0 ∷ 1 ∷ []; result = 1 ∷ 5 ∷ 0 ∷ 0 ∷ []; kept = replicate 4 0 }
 
 pub record Case : Type 0 where
   pub is : Seen
@@ -153,7 +169,7 @@ module _ (sheet : (limit : ℕ) → Workflow) where
       -- 2. Then success: waiting at 1, visit 1.
       ∷ case (after 1 to-2) (going (2 ∷ 1 ∷ 1 ∷ 0 ∷ []) 1 no-order [] [] (0 ∷ 0 ∷ []))
       -- 3. Then signal 5 with 4: streak 1, schedule 0 visit 2; 2 microsteps.
-      ∷ case (after 1 to-3) again
+      ∷ case (after 1 to-3) (again 3)
       -- 4. Again after success: node 3, failed, note 9, node 1 keeps outcome 4, no streak.
       ∷ case (after 1 (to-3 ++ (plainly (result 4 0 2 1 0 false) ∷ plainly (signal 5 5 4) ∷ [])))
       (record {
@@ -168,7 +184,7 @@ module _ (sheet : (limit : ℕ) → Workflow) where
       })
       -- 5. Case 3 at limit 1: 26; at 2 accepted.
       ∷ case (after 1 (to-2 ++ (call 1 10 (signal 3 5 4) ∷ []))) (refusal 26 255)
-      ∷ case (after 1 (to-2 ++ (call 2 10 (signal 3 5 4) ∷ []))) again
+      ∷ case (after 1 (to-2 ++ (call 2 10 (signal 3 5 4) ∷ []))) (again 3)
       -- 6. Signal 5 with 3 while waiting: note 5, still waiting.
       ∷ case (after 1 (to-2 ++ (plainly (signal 3 5 3) ∷ []))) (going (2 ∷ 1 ∷ 1 ∷ 0 ∷ []) 1 no-order ((5 ∷ 1 ∷ 103 ∷ 3 ∷ 0 ∷ []) ∷ []) ((3 ∷ 2 ∷ []) ∷ []) (0 ∷ 0 ∷ []))
       -- 7. Status 3 after case 1: parked; the same result next: note 2.
@@ -196,16 +212,39 @@ module _ (sheet : (limit : ℕ) → Workflow) where
       ∷ case (after 2 to-1) (going (1 ∷ 0 ∷ 1 ∷ 1 ∷ []) 1 (scheduled 1) [] [] (0 ∷ 0 ∷ []))
       ∷ case (after 3 to-1) (refusal 12 1)
       -- 12. Waiting, 64 of signal 6 stored: a matching arrival is taken; signal 6 gets note 4.
-      ∷ case (on-full to-2 (signal 3 5 4)) again
-      ∷ case (on-full to-2 (signal 3 6 255)) (going (2 ∷ 1 ∷ 1 ∷ 0 ∷ []) 0 no-order ((4 ∷ 255 ∷ 103 ∷ 0 ∷ 0 ∷ []) ∷ []) ((3 ∷ 3 ∷ []) ∷ []) (0 ∷ 0 ∷ []))
+      ∷ case (on-full to-2 (signal 67 5 4)) (again 67)
+      ∷ case (on-full to-2 (signal 67 6 255)) (going (2 ∷ 1 ∷ 1 ∷ 0 ∷ []) 0 no-order ((4 ∷ 255 ∷ 167 ∷ 0 ∷ 0 ∷ []) ∷ []) ((67 ∷ 3 ∷ []) ∷ []) (0 ∷ 0 ∷ []))
+      -- Left over (document 02, T-02). The run ends while two of signal 6 are stored.
+      ∷ case (after 1 (to-2 ++ (plainly (signal 3 6 255) ∷ plainly (signal 4 6 255) ∷ plainly (signal 5 5 255) ∷ [])))
+      (completed 2 [] ((5 ∷ 1 ∷ []) ∷ (3 ∷ 5 ∷ []) ∷ (4 ∷ 5 ∷ []) ∷ []))
+      -- Of the stored one has no route, one is routed to the end, and the others are left over.
+      ∷ case (after 1 (to-1 ++ (plainly (signal 2 5 9) ∷ plainly (signal 3 6 255) ∷ plainly (signal 4 5 255) ∷ plainly (signal 5 5 255) ∷ plainly (result 6 0 1 1 0 false) ∷ [])))
+      (completed 4 ((5 ∷ 1 ∷ 102 ∷ 9 ∷ 0 ∷ []) ∷ []) ((2 ∷ 2 ∷ []) ∷ (4 ∷ 1 ∷ []) ∷ (3 ∷ 5 ∷ []) ∷ (5 ∷ 5 ∷ []) ∷ []))
+      -- With a full store there are 65 endings, the arrival's first.
+      ∷ case (on-full to-2 (signal 67 5 255)) (completed 2 [] ((67 ∷ 1 ∷ []) ∷ rows (λ i. (3 + i) ∷ 5 ∷ []) 0 64))
+      -- Stuck, and an operator's fail: failed with the kept error.
+      ∷ case (after 1 (to-1 ++ (plainly (result 2 0 1 2 0 false) ∷ plainly (signal 3 5 255) ∷ plainly (failed 4) ∷ [])))
+      (record {
+        place = 5 ∷ 255 ∷ 0 ∷ 0 ∷ [];
+        microsteps = 0;
+        order = no-order;
+        notes = [];
+        endings = (3 ∷ 5 ∷ []) ∷ [];
+        node-1 = 0 ∷ 0 ∷ [];
+        result = 2 ∷ 5 ∷ 0 ∷ 0 ∷ [];
+        kept = replicate 4 0;
+      })
+      -- An ended record with signals stored: noted 25, start 24.
+      ∷ case (on-full (to-2 ++ (plainly (signal 3 5 255) ∷ [])) (noted 67)) (refusal 25 255)
+      ∷ case (on-full (to-2 ++ (plainly (signal 3 5 255) ∷ [])) start) (refusal 24 255)
       ∷ []
 
   abbrev pub Agree : Type 0
   Agree = map (λ (it : Case). it .is) cases ≡ map (λ (it : Case). it .should-be) cases
 
 on-rows : Agree sheet
-unfolding event start signal result call plainly seen-of newest after sixty-four on-full no-order scheduled refusal going again case cases output-numbers kept-numbers params-numbers order-numbers
-    if_then_else_ _and_ _or_ rows span first every remove-at without settle node-of policy-of are route-of limit-of declares formed-node formed-route formed-limit formed-declared chained-from chained ascends form reserved declared-twice breaks-7 unrouted extra leads-nowhere breaks-8 breaks-9 bad-limit breaks-12 pass repeated with-ends reached reaching-end rule-at is-broken first-broken actions-verdict verdict is-terminal listed first-signal signal-at removed appended signals-fit mapping-answer terminate evaluate schedule enter-activity enter-await enter-complete arrive enter follow-to route-limited route take-by retry named named-node applies not-applicable complete-invocation stick fail-invocation on-signal on-success on-failure on-unknown on-result resolve-as-complete resolve-as-fail on-resolved on-ended react counters-fit slots-fit stands consistent operations-of added counting consume-by advance-by driven event-fits finish-by start-stage next-stage admission transition-by transition standing history
+unfolding event start signal failed noted result call plainly seen-of newest after sixty-four on-full no-order scheduled refusal going again completed case cases output-numbers kept-numbers params-numbers order-numbers
+    if_then_else_ _and_ _or_ rows span first every remove-at without settle node-of policy-of are route-of limit-of declares formed-node formed-route formed-limit formed-declared chained-from chained ascends form reserved declared-twice breaks-7 unrouted extra leads-nowhere breaks-8 breaks-9 bad-limit breaks-12 pass repeated with-ends reached reaching-end rule-at is-broken first-broken actions-verdict verdict is-terminal listed first-signal signal-at removed appended leaves-over left-over emptied signals-fit mapping-answer terminate evaluate schedule enter-activity enter-await enter-complete arrive enter follow-to route-limited route take-by retry named named-node applies not-applicable complete-invocation stick fail-invocation on-signal on-success on-failure on-unknown on-result resolve-as-complete resolve-as-fail on-resolved on-ended react counters-fit slots-fit stands consistent operations-of added counting consume-by advance-by driven event-fits closed finish-by start-stage next-stage admission transition-by transition standing history
 on-rows = refl
 
 -- THE TABLE, on the sheet that is read from the numbers which the walking program has.

@@ -9,6 +9,7 @@ pub mod Tidy
 pub mod Keep
 pub mod Opened
 pub mod Driver
+pub mod Closed
 pub mod History
 pub mod Single
 pub mod Proof

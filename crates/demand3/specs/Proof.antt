@@ -1,10 +1,12 @@
 -- The proof of demand 3.
-use mathlib.Core.Path.{_≡_, refl, ap}
+use mathlib.Core.Bool.{true}
+use mathlib.Core.Path.{_≡_, refl, sym, _∙_, ap}
 use mathlib.Core.List.{List, [], _∷_, _++_}
 use Prim.Native.Nat.{ℕ, zero, suc, _+_, _≤_}
 use native.Mathlib.Omega.{arith}
 use Rattle.laws.specs.Bool.{either}
-use Rattle.laws.specs.All.{All}
+use Rattle.laws.specs.All.{All, all-map}
+use Rattle.laws.specs.Every.{every}
 use Rattle.workflow.specs.View.{Workflow}
 use Rattle.workflow.specs.Sound.{Sound}
 use Rattle.graph.specs.declared.Verdict.{Verdict}
@@ -13,17 +15,17 @@ use Rattle.model.specs.declared.State.{State}
 use Rattle.model.specs.declared.event.Event.{Event}
 use Rattle.model.specs.declared.moves.Next.{Next}
 use Rattle.model.specs.declared.moves.Next.the-variants.{Rest, Enter, Take, Consume, Wants, Refuse}
-use Rattle.model.specs.Record.{fresh}
+use Rattle.model.specs.Record.{is-terminal, fresh}
 use Rattle.model.specs.Store.{listed, stored}
 use Rattle.kernel.specs.Drive.{Machine, driven}
 use Rattle.kernel.specs.declared.Limits.{Limits}
 use Rattle.kernel.specs.declared.Call.{Call}
 use Rattle.kernel.specs.Call.{Accepted, Answer, next, wants, refused, Last, no-record, last, admission, given, finish-by, transition-by, transition}
-use Rattle.demand3.specs.Words.{times}
-use Rattle.demand3.specs.Tidy as Tidy
+use Rattle.demand3.specs.Words.{times, plain}
 use Rattle.demand3.specs.Tidy.{Sized}
-use Rattle.demand3.specs.Demand3.{Entry, standing-after, standing, next-entry, history, Done, done-by, accepted, signals, in-store, Fate, no-signal, still-stored, has-ended, counts, Reports, Not-26, Demand3, demand-3, Ordered-before, applied-were-ordered}
+use Rattle.demand3.specs.Demand3.{Entry, standing-after, standing, next-entry, history, Done, done-by, accepted, signals, in-store, Fate, no-signal, still-stored, has-ended, counts, Reports, Not-26, Demand3, demand-3, endings, Ordered-before, applied-were-ordered, all-ended}
 use Rattle.demand3.specs.Driver.{Keeps, kept-driven, driven-frozen, driven-hears}
+use Rattle.demand3.specs.Closed.{ended-empty, checked-none-left, closes, live-closed, stands-closed, orders-closed, opens-closed, frozen-closed}
 use Rattle.demand3.specs.History.{Fact, History, fresh-history, one-more}
 use Rattle.demand3.specs.Single.{Sized-last, Admitted, admitted, Begins, begins, Single, Proper, every-call}
 
@@ -56,7 +58,7 @@ module _ (f : Workflow) (sheet : Sound f) (c : Call) (ds : List Done) (s : State
   tells-finish : (n : Next) → Keeps f sheet (c .limits .microsteps) (c .event) (c .mappings) s n 0 x → Tells f c s (finish-by n (c .limits) x)
   unfolding finish-by
   tells-finish Rest h =
-      let t = h .base .checks .tidy in
+      let y = closes f x (h .base .checks .tidy) (h .base .checks .well) (omega (arith, h .base .bounds .few-endings)) in
       either (Tells f c s) _ (λ _. record { tells = tt })
       (λ _. either (Tells f c s) _ (λ _. record { tells = tt })
       (λ _. record {
@@ -64,14 +66,14 @@ module _ (f : Workflow) (sheet : Sound f) (c : Call) (ds : List Done) (s : State
             record {
               ready = record { slotted = b .slotted; nodes = i .sized .visits; counts = i .counts; owner = b .owner };
               sequence = b .sequence;
-              live = h .keeps .live;
-              stands = h .keeps .stands;
-              orders = h .keeps .orders;
-              frozen = driven-frozen f sheet (c .limits .microsteps) (c .event) (c .mappings) s;
-              hears = driven-hears f sheet (c .limits .microsteps) (c .event) (c .mappings) s;
-              checked = Tidy.checked-by f (x .state) t (h .base .checks .well);
-              sized = record { signals = t .store .slotted .long; visits = t .visit-slots .long; results = t .result-slots .long; streaks = t .streak-slots .long };
-              opens = h .opens;
+              live = live-closed f s (c .event) x (h .keeps .live);
+              stands = stands-closed f s (c .event) x (h .keeps .stands);
+              orders = orders-closed f s (c .event) x (h .keeps .orders);
+              frozen = λ o. frozen-closed f s (c .event) x (b .none-left) (driven-frozen f sheet (c .limits .microsteps) (c .event) (c .mappings) s o);
+              hears = λ k g. driven-hears f sheet (c .limits .microsteps) (c .event) (c .mappings) s k (ap (every plain) (sym (y .same-notes)) ∙ g);
+              checked = y .checked;
+              sized = y .sized;
+              opens = opens-closed f s (c .event) x (h .opens);
             };
       }))
   tells-finish (Enter n j) h = record { tells = tt }
@@ -141,6 +143,7 @@ told-by f h s i g z =
       ordered-once = i .ordered-once;
       applied-once = i .applied-once;
       counts-hold = i .all-counts;
+      none-left = all-map _ _ (accepted h) (λ d c o. ended-empty (d .answer .state) (checked-none-left f (d .answer .state) c) o) (i .all-checked);
       one-fate = λ q. fate _ _ _ (omega (arith, z q, i .conserved q)) (i .once q);
       frozen = i .frozen;
       at-most-130 = all-of f _ h (λ y a. a .few) (g .each);
@@ -157,13 +160,23 @@ whole f h (last s) e i g = told-by f h s i g (λ q. ap (in-store q) e)
 pub holds : demand-3
 holds f calls = let g = kept f calls [] (at-first f) in whole f (history f [] calls) _ refl (g .inv) g
 
--- BESIDE IT: what was applied was ordered, and every answer of a list is a proper one.
+-- BESIDE IT: what was applied was ordered, every signal of an ended run has ended, and every answer of a list is a proper one.
 were-ordered : (f : Workflow) (ds : List Done) (r : Last) → Inv f ds r → Ordered-before ds
 were-ordered f ds no-record i = i 0 .applied-ordered
 were-ordered f ds (last s) i = i .applied-ordered
 
 pub all-ordered : applied-were-ordered
 all-ordered f calls = let h = history f [] calls in were-ordered f (accepted h) (standing h) (kept f calls [] (at-first f) .inv)
+
+ended-all : (f : Workflow) (ds : List Done) (r : Last) (s : State) → r ≡ last s → is-terminal (s .status) ≡ true → Inv f ds r → (q : ℕ) → endings q ds ≡ signals q ds
+unfolding times
+ended-all f ds no-record s e h i q = let w : _≡_ {A = ℕ} 0 1 = cc in absurd (omega arith)
+ended-all f ds (last t) s e h i q =
+    let z : s ≡ t = cc in
+    omega (arith, i .conserved q, ap (times q) (ended-empty t (i .none-left) (rw z at h)))
+
+pub every-signal-ended : all-ended
+every-signal-ended f calls s e h q = ended-all f _ _ s e h (kept f calls [] (at-first f) .inv) q
 
 pub all-proper : (f : Workflow) (calls : List Call) → All (λ y. Proper f (y .said)) (history f [] calls)
 all-proper f calls = all-of f (λ y. Proper f (y .said)) (history f [] calls) (λ y a. a .proper) (kept f calls [] (at-first f) .each)

@@ -1,6 +1,6 @@
 -- Of every single call, on whatever sheet and record: no refusal is 0, which would be the original's internal failures; the run check takes the next record; an answer
 -- has at most 65 notes and 65 endings; at most 130 microsteps are come to, an accepted answer reports them, and at a limit of 130 or more none is refused with 26.
-use mathlib.Core.Path.{_≡_, refl, sym, _∙_}
+use mathlib.Core.Path.{_≡_, refl, sym, _∙_, ap}
 use mathlib.Core.Bool.{true, false, not, false≢true}
 use mathlib.Core.Logic.{_⊎_, inl, inr}
 use Prim.Native.Nat.{ℕ, _+_, _≤_, _<_}
@@ -27,6 +27,7 @@ use Rattle.model.specs.declared.moves.Next.{Next}
 use Rattle.model.specs.declared.moves.Next.the-variants.{Rest, Enter, Take, Consume, Wants, Refuse}
 use Rattle.model.specs.Code.{largest, running, waiting, invariant, no-retry, unencodable}
 use Rattle.model.specs.Record.{visits-of, is-terminal, seen, fresh}
+use Rattle.model.specs.Store.{leaves-over}
 use Rattle.model.specs.StoreLaws.{Is-slotted}
 use Rattle.snapshot.specs.EventCheck.{event-fits}
 use Rattle.snapshot.specs.Check.{is-no-invocation, terminal-fits, waits, works, live-fits, consistent, stands}
@@ -43,6 +44,7 @@ use Rattle.demand3.specs.Tidy as Tidy
 use Rattle.demand3.specs.Tidy.{Sized}
 use Rattle.demand3.specs.Keep.{Owner}
 use Rattle.demand3.specs.Driver.{Checks, checked-driven}
+use Rattle.demand3.specs.Closed.{none-left-empty, checked-none-left, closes}
 
 -- THE CLAIM, of the answer to a call that came to a count of microsteps.
 abbrev pub Proper : Workflow → Answer → Type 0
@@ -121,6 +123,7 @@ pub record Begins (f : Workflow) (s : State) (e : Event) : Type 0 where
   pub slotted : Is-slotted s
   pub tidy : Tidy.Good f (apply f s e)
   pub owner : eqb (s .invocation .phase) 0 ≡ false → Owner s
+  pub none-left : leaves-over (s .status) (s .«signal_count») ≡ false
   pub sequence : e .sequence ≡ s .«last_sequence» + 1
 
 pub begins : (f : Workflow) (r : Last) (c : Call) → Sized-last r → Admitted f r c → Begins f (given r c) (c .event)
@@ -138,13 +141,15 @@ begins f no-record c z a =
           (Tidy.tidy-seen f s (c .event .sequence) (c .event .«accepted_at») (u .0) (u .1) (Tidy.tidy-fresh f (c .event .input))) (λ _. (not-ended, refl))
           (λ y. absurd (false≢true (sym y ∙ k))) (u .0);
       owner = λ h. absurd (false≢true (sym h));
+      none-left = none-left-empty running;
       sequence = eqb-true _ _ q;
     }
 begins f (last s) c z a =
     let u = in-time (c .event) (c .mappings) (a .event) in
     let n : not (is-start (c .event .kind)) ≡ true = rule-holds started-before (a .stage) (search stage depth 8) in
     let k : is-start (c .event .kind) ≡ false = not-true _ n in
-    let t = Tidy.tidy-of f s z (rule-holds inconsistent (a .stage) (search stage depth 8)) in
+    let g : consistent f s ≡ true = rule-holds inconsistent (a .stage) (search stage depth 8) in
+    let t = Tidy.tidy-of f s z g in
     let q : eqb (c .event .sequence) (s .«last_sequence» + 1) ≡ true = rule-holds out-of-sequence (a .stage) (search stage depth 8) in
     record {
       sized = z;
@@ -154,6 +159,7 @@ begins f (last s) c z a =
           (Tidy.tidy-seen f s (c .event .sequence) (c .event .«accepted_at») (u .0) (u .1) (t .0)) (λ y. absurd (false≢true (sym k ∙ y)))
           (λ _. Tidy.stands-seen f s _ _ ∙ t .1) (u .0);
       owner = λ h. owner f s h (t .1);
+      none-left = checked-none-left f s g;
       sequence = eqb-true _ _ q;
     }
 
@@ -178,19 +184,19 @@ module _ (f : Workflow) (sheet : Sound f) (c : Call) (s : State) (b : Begins f s
   finishes : (n : Next) → x .next ≡ n → Rests n → Single f c all-steps (finish-by n (c .limits) x)
   unfolding finish-by
   finishes Rest z h =
-      let t = h .checks .tidy in
+      let y = closes f x (h .checks .tidy) (h .checks .well) (omega (arith, h .bounds .few-endings)) in
       either (Single f c all-steps) _ (λ _. refuses f c all-steps commands-exceeded none few (λ e. omega arith) (λ e. omega arith))
       (λ _. either (Single f c all-steps) _ (λ _. refuses f c all-steps operations-exceeded none few (λ e. omega arith) (λ e. omega arith))
       (λ _. record {
         proper =
             record {
-              checked = Tidy.checked-by f (x .state) t (h .checks .well);
-              few-notes = omega (arith, h .bounds .few-notes);
-              few-endings = omega (arith, h .bounds .few-endings);
-              sized = record { signals = t .store .slotted .long; visits = t .visit-slots .long; results = t .result-slots .long; streaks = t .streak-slots .long };
+              checked = y .checked;
+              few-notes = omega (arith, h .bounds .few-notes, ap length (y .same-notes));
+              few-endings = y .few;
+              sized = y .sized;
             };
         few = few;
-        reports = counts-steps f (c .limits .microsteps) (c .event) (c .mappings) s z;
+        reports = y .same-steps ∙ counts-steps f (c .limits .microsteps) (c .event) (c .mappings) s z;
         never-26 = tt;
       }))
   finishes (Enter n j) z h = absurd (omega (arith, h .bounds .enough))

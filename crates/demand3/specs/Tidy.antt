@@ -38,7 +38,7 @@ use Rattle.model.specs.declared.moves.Next.{Next}
 use Rattle.model.specs.declared.moves.Next.the-variants.{Rest, Enter, Take, Consume, Wants, Refuse}
 use Rattle.model.specs.declared.moves.Move.{Move}
 use Rattle.model.specs.Record.{no-visits, no-streak, no-node-result, no-invocation, fresh, visits-of, streak-of, is-terminal, set-signals, set-visits, set-results, set-streaks, with-streak, with-result, seen, placed, finished}
-use Rattle.model.specs.Store.{listed, removed, appended, signals-fit}
+use Rattle.model.specs.Store.{listed, removed, appended, leaves-over, signals-fit}
 use Rattle.model.specs.Step.{still, position, one-more-visit, phased, arrival, terminate, evaluate, schedule, enter-activity, enter-await, enter-complete, arrive, enter, follow-to, follow, route-limited, route, signal-outcome, take-by, take as take-signal, retry}
 use Rattle.machine.specs.Events.{named, applies, not-applicable, complete-invocation, stick, fail-invocation, on-signal, on-success, on-failure, on-unknown, on-result, resolve-as-complete, resolve-as-fail, on-resolved, on-ended, react}
 use Rattle.snapshot.specs.Check.{result-unused, result-zero, result-fits, streak-zero, streak-fits, slot-fits, slots-fit, counters-fit, keeps-error, is-no-invocation, result-of-status, phase-fits, waits, works, stands, consistent}
@@ -109,13 +109,13 @@ module _ (f : Workflow) where
   abbrev pub Tidies : State → Type 0
   Tidies s = Tidy f (s .signals) (s .«signal_count») (s .visits) (s .results) (s .streaks) (s .«last_sequence») (s .«last_accepted_at»)
 
-  -- Tidy and standing as it should is the run check.
-  pub checked-by : (s : State) → Tidies s → stands f s ≡ true → consistent f s ≡ true
+  -- Tidy, standing as it should and with no signal left over is the run check.
+  pub checked-by : (s : State) → Tidies s → stands f s ≡ true → leaves-over (s .status) (s .«signal_count») ≡ false → consistent f s ≡ true
   unfolding consistent counters-fit slots-fit
-  checked-by s t w =
+  checked-by s t w l =
       join _ _ (join _ _ (le-leb _ _ (t .in-sequence)) (le-leb _ _ (t .in-time)))
       (join _ _ (t .store .fits)
-      (join _ _ (at-below 64 _ (λ n h. one-by-one _ _ _ _ _ _ ∙ join _ _ (t .visit-slots .each n h) (join _ _ (t .result-slots .each n h) (t .streak-slots .each n h)))) w))
+      (join _ _ (at-below 64 _ (λ n h. one-by-one _ _ _ _ _ _ ∙ join _ _ (t .visit-slots .each n h) (join _ _ (t .result-slots .each n h) (t .streak-slots .each n h)))) (join _ _ w (ap not l))))
 
   pub tidy-of : (s : State) → Sized s → consistent f s ≡ true → (Tidies s) × (stands f s ≡ true)
   unfolding consistent counters-fit slots-fit
@@ -133,7 +133,7 @@ module _ (f : Workflow) where
           result-slots = record { long = z .results; each = λ n h. both _ _ (both _ _ (slot n h) .1) .0 };
           streak-slots = record { long = z .streaks; each = λ n h. both _ _ (both _ _ (slot n h) .1) .1 };
         },
-        w .1,
+        both _ _ (w .1) .0,
       )
 
   -- The first record is tidy, and one that takes note of an event stays so.

@@ -25,10 +25,10 @@ use Rattle.model.specs.Store.{first-signal, signal-at, removed}
 use Rattle.model.specs.StoreLaws.{first-inside}
 use Rattle.model.specs.Step.{no-note, no-ending, arrival, enter, take}
 use Rattle.machine.specs.Events.{apply}
-use Rattle.kernel.specs.Cost.{cost, entered, costs-take, reacted, removed-count}
+use Rattle.kernel.specs.Cost.{cost, takes, takes-small, in-hand, hand-empty, entered, costs-take, reacted, removed-count}
 use Rattle.kernel.specs.Drive.{Machine, added, moved, counting, consume-by, advance-by, advance, moves-on, started}
 
--- WHAT MAY STILL COME, by what comes next and how many signals are stored: moves, and notes or endings; and the signals that may be taken.
+-- WHAT MAY STILL COME, by what comes next and how many signals are stored: moves, and notes.
 abbrev pub need : Next → (stored : ℕ) → ℕ
 need Rest h = 0
 need (Enter n b) h = 2 + 2 * h
@@ -44,14 +44,6 @@ spare Take h = 1 + h
 spare Consume h = h
 spare (Wants n i b) h = 0
 spare (Refuse k) h = 0
-
-abbrev taken : Next → (stored : ℕ) → ℕ
-taken Rest h = 0
-taken (Enter n b) h = h
-taken Take h = h
-taken Consume h = h
-taken (Wants n i b) h = 0
-taken (Refuse k) h = 0
 
 need-cost : (k : Next) (h : ℕ) → need k h ≤ cost k h + 1
 need-cost Rest h = omega arith
@@ -69,37 +61,32 @@ spare-cost Consume h c = omega arith
 spare-cost (Wants n i b) h c = omega arith
 spare-cost (Refuse k) h c = omega arith
 
-taken-stored : (k : Next) (h : ℕ) → taken k h ≤ h
-taken-stored Rest h = omega arith
-taken-stored (Enter n b) h = omega arith
-taken-stored Take h = omega arith
-taken-stored Consume h = omega arith
-taken-stored (Wants n i b) h = omega arith
-taken-stored (Refuse k) h = omega arith
-
--- l notes or endings at first, none where an arrival is to be taken
+-- l notes at first, none where an arrival is to be taken
 module _ (n : Next) (count h : ℕ) (same : (n ≡ Rest → ⊥) → count ≡ h) (room : h ≤ 64) where
-  at-first : (k : Next) → n ≡ k → (l : ℕ) → l ≤ 1 → (k ≡ Take → l ≡ 0) → (l + spare k count ≤ 65) × (taken k count ≤ 64)
-  at-first Rest e l a q = (omega arith, omega arith)
-  at-first (Enter t b) e l a q = (omega (arith, same moves), omega (arith, same moves))
+  at-first : (k : Next) → n ≡ k → (l : ℕ) → l ≤ 1 → (k ≡ Take → l ≡ 0) → l + spare k count ≤ 65
+  at-first Rest e l a q = omega arith
+  at-first (Enter t b) e l a q = omega (arith, same moves)
     where
       moves : n ≡ Rest → ⊥
       moves d = let w : _≡_ {A = ℕ} 0 1 = cc in omega arith
-  at-first Take e l a q = (omega (arith, q refl, same moves), omega (arith, same moves))
+  at-first Take e l a q = omega (arith, q refl, same moves)
     where
       moves : n ≡ Rest → ⊥
       moves d = let w : _≡_ {A = ℕ} 0 1 = cc in omega arith
-  at-first Consume e l a q = (omega (arith, same moves), omega (arith, same moves))
+  at-first Consume e l a q = omega (arith, same moves)
     where
       moves : n ≡ Rest → ⊥
       moves d = let w : _≡_ {A = ℕ} 0 1 = cc in omega arith
-  at-first (Wants t i b) e l a q = (omega arith, omega arith)
-  at-first (Refuse k) e l a q = (omega arith, omega arith)
+  at-first (Wants t i b) e l a q = omega arith
+  at-first (Refuse k) e l a q = omega arith
 
 -- THE LISTS.
+length-added : {A : Type 0} (c : ℕ) (xs : List A) (x : A) → length (added c xs x) ≡ length xs + takes c
+unfolding added takes if_then_else_
+length-added c xs x = split (eqb c 0) (λ h. rw h (omega arith)) (λ h. rw h (omega (arith, length-append xs (x ∷ []))))
+
 one-more : {A : Type 0} (c : ℕ) (xs : List A) (x : A) → length (added c xs x) ≤ length xs + 1
-unfolding added if_then_else_
-one-more c xs x = split (eqb c 0) (λ h. rw h (omega arith)) (λ h. rw h (omega (arith, length-append xs (x ∷ []))))
+one-more c xs x = omega (arith, length-added c xs x, takes-small c)
 
 pub none-more : {A : Type 0} {c : ℕ} (xs : List A) (x : A) → c ≡ 0 → added c xs x ≡ xs
 unfolding added if_then_else_
@@ -107,31 +94,32 @@ none-more xs x e = rw e
 
 -- A machine with n next, and k moves left.
 pub record Bounds (n : Next) (k : ℕ) (x : Machine) : Type 0 where
-  pub room : taken n (x .state .«signal_count») ≤ 64
+  pub room : x .state .«signal_count» ≤ 64
   pub steps : x .microsteps + cost n (x .state .«signal_count») ≤ 130
   pub enough : need n (x .state .«signal_count») ≤ k
   pub few-notes : length (x .notes) + spare n (x .state .«signal_count») ≤ 65
-  pub few-endings : length (x .endings) + spare n (x .state .«signal_count») ≤ 65
+  -- those that have ended, the one in hand and the stored
+  pub few-endings : length (x .endings) + in-hand n + x .state .«signal_count» ≤ 65
 
 module _ (f : Workflow) (limit : ℕ) (e : Event) (m : Mappings) where
   abbrev pub Bounded : (k : ℕ) → Machine → Type 0
   Bounded k x = Bounds (x .next) k x
 
   -- a move is counted
-  bounded-counting : (k : ℕ) (x : Machine) (v : Move) → x .microsteps + 1 ≤ 130 → length (x .notes) ≤ 65 → length (x .endings) ≤ 65
+  bounded-counting : (k : ℕ) (x : Machine) (v : Move) → x .microsteps + 1 ≤ 130 → x .state .«signal_count» ≤ 64 → length (x .notes) ≤ 65 → length (x .endings) + x .state .«signal_count» ≤ 65
       → Bounded k (moved f limit e m (x .microsteps + 1) x v) → Bounded k (counting f limit e m x v)
   unfolding counting
-  bounded-counting k x v h n d g =
-      either (Bounded k) (ltb limit (x .microsteps + 1)) (λ _. record { room = omega arith; steps = omega arith; enough = omega arith; few-notes = omega arith; few-endings = omega arith }) (λ _. g)
+  bounded-counting k x v h r n d g =
+      either (Bounded k) (ltb limit (x .microsteps + 1)) (λ _. record { room = r; steps = omega arith; enough = omega arith; few-notes = omega arith; few-endings = omega arith }) (λ _. g)
 
   -- a signal is taken where h are left in the store; an entry and these may follow
-  bounded-take : (k h : ℕ) (x : Machine) (v : Move) → v .state .«signal_count» ≡ h → cost (v .next) (v .state .«signal_count») ≤ 1 + 2 * h → h ≤ 64
-      → x .microsteps + 2 + 2 * h ≤ 130 → 2 + 2 * h ≤ k → length (x .notes) + 1 + h ≤ 65 → length (x .endings) + 1 + h ≤ 65 → Bounded k (counting f limit e m x v)
-  bounded-take k h x v z c r a b n d =
+  bounded-take : (k h : ℕ) (x : Machine) (v : Move) → v .state .«signal_count» ≡ h → cost (v .next) (v .state .«signal_count») ≤ 1 + 2 * h → h ≤ x .state .«signal_count» → x .state .«signal_count» ≤ 64
+      → x .microsteps + 2 + 2 * h ≤ 130 → 2 + 2 * h ≤ k → length (x .notes) + 1 + h ≤ 65 → length (x .endings) + x .state .«signal_count» ≤ 65 → length (x .endings) + 1 + h ≤ 65 → Bounded k (counting f limit e m x v)
+  bounded-take k h x v z c l r a b n o d =
       let p = need-cost (v .next) (v .state .«signal_count») in
       let q = spare-cost (v .next) (v .state .«signal_count») (omega arith) in
-      let t = taken-stored (v .next) (v .state .«signal_count») in
-      bounded-counting k x v (omega arith) (omega arith) (omega arith)
+      let t = hand-empty (v .next) (v .state .«signal_count») (omega arith) in
+      bounded-counting k x v (omega arith) r (omega arith) o
       (record { room = omega arith; steps = omega arith; enough = omega arith; few-notes = omega (arith, one-more (v .note .code) (x .notes) (v .note)); few-endings = omega (arith, one-more (v .ending .ending) (x .endings) (v .ending)) })
 
   -- WHAT COMES NEXT IS DONE.
@@ -142,8 +130,8 @@ module _ (f : Workflow) (limit : ℕ) (e : Event) (m : Mappings) where
       let z = c .costs .same in
       let p = need-cost (v .next) (v .state .«signal_count») in
       let q = spare-cost (v .next) (v .state .«signal_count») (omega (arith, c .costs .small)) in
-      let t = taken-stored (v .next) (v .state .«signal_count») in
-      bounded-counting k x v (omega (arith, a .steps)) (omega (arith, a .few-notes)) (omega (arith, a .few-endings))
+      let t = hand-empty (v .next) (v .state .«signal_count») (omega (arith, c .costs .small)) in
+      bounded-counting k x v (omega (arith, a .steps)) (a .room) (omega (arith, a .few-notes)) (omega (arith, a .few-endings))
       (record {
         room = omega (arith, a .room);
         steps = omega (arith, a .steps, c .costs .small);
@@ -155,7 +143,7 @@ module _ (f : Workflow) (limit : ℕ) (e : Event) (m : Mappings) where
   bounded-arrival : (k : ℕ) (x : Machine) → Bounds Take (suc k) x → Bounded k (counting f limit e m x (take f (x .state) (arrival e) Rest))
   bounded-arrival k x a =
       let c = costs-take f (x .state) (arrival e) Rest (omega arith) in
-      bounded-take k (x .state .«signal_count») x _ (c .same) (c .small) (a .room) (omega (arith, a .steps)) (omega (arith, a .enough)) (omega (arith, a .few-notes)) (omega (arith, a .few-endings))
+      bounded-take k (x .state .«signal_count») x _ (c .same) (c .small) (omega arith) (a .room) (omega (arith, a .steps)) (omega (arith, a .enough)) (omega (arith, a .few-notes)) (omega (arith, a .few-endings)) (omega (arith, a .few-endings))
 
   bounded-consume : (k : ℕ) (x : Machine) → Bounds Consume (suc k) x → (y : Found) → first-signal (x .state) (node-of f (x .state .position .node) .signal) ≡ y
       → Bounded k (consume-by f limit e m y x)
@@ -164,10 +152,10 @@ module _ (f : Workflow) (limit : ℕ) (e : Event) (m : Mappings) where
       let s = removed (x .state) i in
       let r = removed-count (x .state) i (a .room) (first-inside (x .state) _ i z) in
       let c = costs-take f s (signal-at (x .state) i) Consume (omega arith) in
-      bounded-take k (s .«signal_count») x _ (c .same) (c .small) (omega (arith, a .room)) (omega (arith, a .steps)) (omega (arith, a .enough)) (omega (arith, a .few-notes)) (omega (arith, a .few-endings))
+      bounded-take k (s .«signal_count») x _ (c .same) (c .small) (omega arith) (a .room) (omega (arith, a .steps)) (omega (arith, a .enough)) (omega (arith, a .few-notes)) (omega (arith, a .few-endings)) (omega (arith, a .few-endings))
   bounded-consume k x a Nothing z =
       record {
-        room = omega arith;
+        room = a .room;
         steps = omega (arith, a .steps);
         enough = omega arith;
         few-notes = omega (arith, a .few-notes, ap length (none-more (x .notes) no-note refl));
@@ -205,5 +193,4 @@ module _ (f : Workflow) (limit : ℕ) (e : Event) (m : Mappings) where
       let c = reacted f (seen s (e .sequence) (e .«accepted_at»)) e in
       let p = need-cost (v .next) (v .state .«signal_count») in
       let n = at-first (v .next) (v .state .«signal_count») (s .«signal_count») (c .same) r (v .next) refl _ (one-more (v .note .code) [] (v .note)) (λ z. ap length (none-more [] (v .note) (ap (λ (y : Note). y .code) (c .quiet z .0)))) in
-      let d = at-first (v .next) (v .state .«signal_count») (s .«signal_count») (c .same) r (v .next) refl _ (one-more (v .ending .ending) [] (v .ending)) (λ z. ap length (none-more [] (v .ending) (ap (λ (y : Ending). y .ending) (c .quiet z .1)))) in
-      record { room = n .1; steps = omega (arith, c .small); enough = omega (arith, c .small); few-notes = n .0; few-endings = d .0 }
+      record { room = c .room r; steps = omega (arith, c .small); enough = omega (arith, c .small); few-notes = n; few-endings = omega (arith, c .held, length-added (v .ending .ending) [] (v .ending)) }

@@ -1,6 +1,6 @@
 -- A call, whole and in the order of document 01: sheet, event, record, step, finish.
 use mathlib.Core.Bool.{Bool, true, false, not}
-use mathlib.Core.List.{List, [], _∷_}
+use mathlib.Core.List.{List, [], _∷_, _++_}
 use Prim.Native.Nat.{ℕ, _+_}
 use lib.Dec.{ltb, eqb}
 use Rattle.laws.specs.Bool.{if_then_else_}
@@ -18,6 +18,7 @@ use Rattle.model.specs.declared.moves.Next.the-variants.{Rest, Enter, Take, Con
 use Rattle.workflow.specs.Code.{none}
 use Rattle.model.specs.Code.{run-started, invariant}
 use Rattle.model.specs.Record.{fresh}
+use Rattle.model.specs.Store.{stored, leaves-over, left-over, emptied}
 use Rattle.snapshot.specs.Check.{consistent}
 use Rattle.snapshot.specs.EventCheck.{event-fits}
 use Rattle.kernel.specs.declared.Limits.{Limits}
@@ -82,6 +83,23 @@ pub data Answer : Type 0 where
   wants : (node field from : ℕ) → State → Answer
   refused : (number item : ℕ) → Answer
 
+-- THE CLOSE (document 02, T-02): a run that has ended leaves over the signals that are still stored. They are listed behind the other endings, oldest first, and the store is
+-- empty. Nothing is counted or noted for it.
+unfoldable pub closed : Machine → Machine
+closed machine =
+    if leaves-over (machine .state .status) (machine .state .«signal_count»)
+    then
+    record {
+      state = emptied (machine .state);
+      next = machine .next;
+      order = machine .order;
+      notes = machine .notes;
+      endings = machine .endings ++ left-over (stored (machine .state));
+      microsteps = machine .microsteps;
+      operations = machine .operations;
+    }
+    else machine
+
 -- THE FINISH: 29 orders over the command limit, then 30 operations over theirs. A want and a refusal come before.
 abbrev pub orders : Order → ℕ
 orders Order.Nothing = 0
@@ -99,7 +117,7 @@ unfoldable pub finish-by : Next → Limits → Machine → Answer
 finish-by Rest limits machine =
     if ltb (limits .commands) (orders (machine .order)) then refused commands-exceeded none else
     if ltb (limits .operations) (machine .operations) then refused operations-exceeded none else
-    next (accepted-of machine)
+    next (accepted-of (closed machine))
 finish-by (Wants node field from) limits machine = wants node field from (machine .state)
 finish-by (Refuse number) limits machine = refused number none
 finish-by (Enter node from) limits machine = unfinished

@@ -1,10 +1,11 @@
 -- How much may still come: every move leaves fewer microsteps to count. On every sheet, sound or not.
-use mathlib.Core.Path.{_≡_, refl}
+use mathlib.Core.Path.{_≡_, refl, ap}
 use mathlib.Core.Bool.{Bool}
 use Prim.Native.Nat.{ℕ, _+_, _*_, _≤_, _<_}
 use native.Mathlib.Omega.{arith}
+use lib.Dec.{eqb}
 use borrow.Author.Tests.{leb-false}
-use Rattle.laws.specs.Bool.{if_then_else_, either}
+use Rattle.laws.specs.Bool.{if_then_else_, split, either}
 use Rattle.workflow.specs.declared.Found.{Found}
 use Rattle.workflow.specs.declared.Found.the-variants.{At, Nothing}
 use Rattle.workflow.specs.View.{Workflow}
@@ -36,6 +37,30 @@ cost Consume h = 2 * h
 cost (Wants n i b) h = 0
 cost (Refuse k) h = 0
 
+-- A move that tells an ending ends one signal; an arrival that is to be taken is in hand.
+unfoldable pub takes : (ending : ℕ) → ℕ
+takes e = if eqb e 0 then 0 else 1
+
+pub takes-small : (e : ℕ) → takes e ≤ 1
+unfolding takes if_then_else_
+takes-small e = split (eqb e 0) (λ h. rw h (omega arith)) (λ h. rw h (omega arith))
+
+abbrev pub in-hand : Next → ℕ
+in-hand Rest = 0
+in-hand (Enter n b) = 0
+in-hand Take = 1
+in-hand Consume = 0
+in-hand (Wants n i b) = 0
+in-hand (Refuse k) = 0
+
+pub hand-empty : (k : Next) (h : ℕ) → cost k h ≤ 1 + 2 * h → in-hand k ≡ 0
+hand-empty Rest h c = refl
+hand-empty (Enter n b) h c = refl
+hand-empty Take h c = absurd (omega arith)
+hand-empty Consume h c = refl
+hand-empty (Wants n i b) h c = refl
+hand-empty (Refuse k) h c = refl
+
 -- From a record with h stored signals to this one, and to what comes next: as many are stored, and at most n microsteps may come.
 pub record Costs (h n : ℕ) (s : State) (k : Next) : Type 0 where
   pub small : cost k (s .«signal_count») ≤ n
@@ -52,10 +77,12 @@ pub record Spares (h : ℕ) (v : Move) : Type 0 where
   pub costs : Costs h (1 + 2 * h) (v .state) (v .next)
   pub no-end : v .ending ≡ no-ending
 
--- The move for an event: one signal more is stored only where nothing comes next, and a move to the take of the arrival has no note and no ending.
+-- The move for an event: those that it ends, the one in hand and the stored are at most one signal more, which is stored only where there is room and nothing comes next; and a
+-- move to the take of the arrival has no note and no ending.
 pub record Reacted (h : ℕ) (v : Move) : Type 0 where
   pub small : cost (v .next) (v .state .«signal_count») ≤ 2 + 2 * h
-  pub grown : v .state .«signal_count» ≤ h + 1
+  pub held : takes (v .ending .ending) + in-hand (v .next) + v .state .«signal_count» ≤ h + 1
+  pub room : h ≤ 64 → v .state .«signal_count» ≤ 64
   pub same : (v .next ≡ Rest → ⊥) → v .state .«signal_count» ≡ h
   pub quiet : v .next ≡ Take → (v .note ≡ no-note) × (v .ending ≡ no-ending)
 
@@ -176,37 +203,55 @@ module _ (f : Workflow) where
 
   -- THE EVENTS.
   reacted-spares : (h : ℕ) (v : Move) → Spares h v → Reacted h v
+  unfolding takes if_then_else_
   reacted-spares h v g =
       let c = g .costs .same in
+      let t : takes (v .ending .ending) ≡ 0 = ap (λ (x : Ending). takes (x .ending)) (g .no-end) in
       record {
-        small = omega arith;
-        grown = omega arith;
+        small = omega (arith, g .costs .small);
+        held = omega (arith, hand-empty (v .next) (v .state .«signal_count») (omega (arith, g .costs .small)));
+        room = λ r. omega arith;
         same = λ _. c;
         quiet = λ e. absurd (omega (arith, rw e at (g .costs .small)));
       }
 
-  reacted-rest : (h : ℕ) (s : State) {x : Note} {y : Ending} → s .«signal_count» ≤ h + 1
+  reacted-rest : (h : ℕ) (s : State) {x : Note} {y : Ending} → takes (y .ending) + s .«signal_count» ≤ h + 1 → (h ≤ 64 → s .«signal_count» ≤ 64)
       → Reacted h (record { state = s; next = Rest; note = x; ending = y; order = Order.Nothing; read = 0 })
-  reacted-rest h s g =
+  reacted-rest h s g r =
       record {
         small = omega arith;
-        grown = g;
+        held = omega arith;
+        room = r;
         same = λ n. absurd (n refl);
         quiet = λ e. let z : _≡_ {A = ℕ} 0 1 = cc in absurd (omega arith);
       }
 
+  -- one that is stored as before, whatever it ends
+  reacted-same : (s : State) {x : Note} {y : Ending} → Reacted (s .«signal_count») (record { state = s; next = Rest; note = x; ending = y; order = Order.Nothing; read = 0 })
+  reacted-same s {x} {y} = reacted-rest _ s (omega (arith, takes-small (y .ending))) (λ r. r)
+
+  -- the arrival is to be taken
+  reacted-take : (s : State) → Reacted (s .«signal_count») (still s Take)
+  unfolding takes if_then_else_
+  reacted-take s = record { small = omega arith; held = omega arith; room = λ r. r; same = λ _. refl; quiet = λ _. (refl, refl) }
+
+  -- it is stored
+  reacted-stored : (s : State) (x : BufferedSignal) → s .«signal_count» < 64 → Reacted (s .«signal_count») (still (appended s x) Rest)
+  unfolding takes if_then_else_
+  reacted-stored s x h =
+      let n : appended s x .«signal_count» ≡ s .«signal_count» + 1 = ap (λ (t : State). t .«signal_count») (appended-room s x h) in
+      reacted-rest (s .«signal_count») (appended s x) {y = no-ending} (omega arith) (λ _. omega arith)
+
   reacted-signal : (s : State) (e : Event) → Reacted (s .«signal_count») (on-signal f s e)
   unfolding on-signal
   reacted-signal s e =
-      either (Reacted _) _ (λ _. record { small = omega arith; grown = omega arith; same = λ _. refl; quiet = λ _. (refl, refl) })
-      (λ _. either (Reacted _) _ (λ _. reacted-rest _ s (omega arith))
-      (λ r. reacted-rest (s .«signal_count») (appended s (arrival e)) (rw (appended-room s (arrival e) (leb-false _ _ r)) (omega arith))))
+      either (Reacted _) _ (λ _. reacted-take s) (λ _. either (Reacted _) _ (λ _. reacted-same s) (λ r. reacted-stored s (arrival e) (leb-false _ _ r)))
 
   pub reacted : (s : State) (e : Event) → Reacted (s .«signal_count») (react f s e)
   unfolding react on-ended
   reacted s e =
-      either (Reacted _) _ (λ _. either (Reacted _) _ (λ _. reacted-rest _ s (omega arith)) (λ _. reacted-rest _ s (omega arith)))
+      either (Reacted _) _ (λ _. either (Reacted _) _ (λ _. reacted-same s) (λ _. reacted-same s))
       (λ _. either (Reacted _) _ (λ _. reacted-spares _ _ (spares-as s (Enter _ _) (omega arith)))
       (λ _. either (Reacted _) _ (λ _. reacted-signal s e)
       (λ _. either (Reacted _) _ (λ _. reacted-spares _ _ (spares-result s e))
-      (λ _. either (Reacted _) _ (λ _. reacted-spares _ _ (spares-resolved s e)) (λ _. reacted-rest _ s (omega arith))))))
+      (λ _. either (Reacted _) _ (λ _. reacted-spares _ _ (spares-resolved s e)) (λ _. reacted-same s)))))

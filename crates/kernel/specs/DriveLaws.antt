@@ -5,12 +5,14 @@ use mathlib.Core.List.{List, [], _∷_, _++_}
 use Prim.Native.Nat.{ℕ, zero, suc, _+_, _-_, _*_, _≤_, _<_}
 use native.Mathlib.Omega.{arith}
 use lib.Dec.{ltb, eqb}
-use lib.ListN.{length, take, set, getD, replicate, length-append}
+use lib.ListN.{length, take, set, getD, replicate, length-append, length-take}
+use lib.Seq.{length-take-le}
 use borrow.Author.Tests.{eq-eqb, ne-eqb, eqb-true, eqb-false, lt-ltb, le-ltb, ltb-true, ltb-false}
 use Rattle.laws.specs.Bool.{if_then_else_, if-true, if-false, split, either}
 use Rattle.laws.specs.Settle.{settle, Settling, settle-rests, settled, settle-next}
 use Rattle.laws.specs.First.{first}
-use Rattle.laws.specs.Listing.{Listing, listing-none, listing-more}
+use Rattle.laws.specs.Listing.{padded, Listing, listing-none, listing-more, listing-splice, take-padded}
+use Rattle.laws.specs.Splice.{splice, splice-one, Written, write-start, write-next, write-end, flat-ones}
 use Rattle.workflow.specs.View.{Workflow}
 use Rattle.workflow.specs.Lookup.{node-of}
 use Rattle.workflow.specs.declared.Node.{Node}
@@ -33,25 +35,23 @@ use Rattle.model.specs.declared.moves.Next.{Next}
 use Rattle.model.specs.declared.moves.Next.the-variants.{Rest, Enter, Take, Consume, Wants, Refuse}
 use Rattle.model.specs.declared.moves.Move.{Move}
 use Rattle.workflow.specs.Code.{none}
-use Rattle.model.specs.Code.{invariant}
-use Rattle.model.specs.Store.{listed as stored-as, first-signal, signal-at, removed}
+use Rattle.model.specs.Code.{store, invariant}
+use Rattle.model.specs.Store.{listed as stored-as, stored, first-signal, signal-at, removed, leaves-over, left-over, emptied}
+use Rattle.model.specs.StoreLaws.{Is-slotted, at-taken, stored-length, length-left}
 use Rattle.model.specs.Step.{still, no-note, no-ending, no-mapping, arrival, enter, follow-to, route-limited, route, take-by, take as take-signal}
 use Rattle.model.specs.EnterLaws.{entering}
 use Rattle.model.specs.RouteLaws.{consumed, taking}
-use Rattle.kernel.specs.Cost.{cost, entered}
+use Rattle.kernel.specs.Cost.{cost, takes, takes-small, entered}
 use Rattle.kernel.specs.Code.{microsteps-exceeded, commands-exceeded, operations-exceeded}
 use Rattle.machine.specs.Events.{apply}
 use Rattle.kernel.specs.Drive.{Machine, operations-of, added, moved, over-limit, counting, consume-by, advance-by, advance, moves-on, is-moving, driven}
 use Rattle.kernel.specs.Bounds.{none-more, Bounds, Bounded, fewer, bounded-advance, bounded-started}
 use Rattle.kernel.specs.Call as call
-use Rattle.kernel.specs.Call.{orders, wants, finish-by, finish}
+use Rattle.kernel.specs.Call.{orders, wants, closed, finish-by, finish}
 use Rattle.kernel.specs.Decision.{decision-of}
 
 -- THE CODE'S PARTS.
 -- A round: a signal is taken where one is to be, and the node that is then to be entered is. Its microsteps are the taking of a signal, which ends it, and the entry.
-unfoldable pub takes : (ending : ℕ) → ℕ
-takes e = if eqb e 0 then 0 else 1
-
 unfoldable pub entries : Next → ℕ
 entries Rest = 0
 entries (Enter n b) = 1
@@ -59,10 +59,6 @@ entries Take = 0
 entries Consume = 0
 entries (Wants n i b) = 0
 entries (Refuse k) = 0
-
-pub takes-small : (e : ℕ) → takes e ≤ 1
-unfolding takes if_then_else_
-takes-small e = split (eqb e 0) (λ h. rw h (omega arith)) (λ h. rw h (omega arith))
 
 pub entries-small : (n : Next) → entries n ≤ 1
 unfolding entries
@@ -107,8 +103,20 @@ answer-of Consume o l k n = rest-answer Order.Nothing l k n
 answer-of (Wants t i b) o l k n = code.Answer.Wants t i b
 answer-of (Refuse r) o l k n = code.Answer.Refused r none
 
+-- A run that has ended leaves over what is still stored.
 unfoldable pub decide : List Note → List Ending → (note-count ending-count : ℕ) → State → code.Answer → Decision
-decide ns es n k s (code.Answer.Next o j) = record { notes = ns; endings = es; «note_count» = n; «ending_count» = k; answer = code.Answer.Next o j; state = s }
+decide ns es n k s (code.Answer.Next o j) =
+    if leaves-over (s .status) (s .«signal_count»)
+    then
+    record {
+      notes = ns;
+      endings = splice es k (left-over (stored s));
+      «note_count» = n;
+      «ending_count» = k + length (stored s);
+      answer = code.Answer.Next o j;
+      state = emptied s;
+    }
+    else record { notes = ns; endings = es; «note_count» = n; «ending_count» = k; answer = code.Answer.Next o j; state = s }
 decide ns es n k s (code.Answer.Wants t i b) = decision-of (wants t i b s)
 decide ns es n k s (code.Answer.Refused r i) = decision-of (call.refused r i)
 
@@ -158,6 +166,39 @@ module _ {A : Type 0} {d : A} {array : List A} {n : ℕ} {xs : List A} {c : ℕ}
   pub added-none : {to : List A} {i : ℕ} → c ≤ 0 → to ≡ array → i ≡ n → Listing d 65 to i (added c xs x)
   unfolding added if_then_else_
   added-none h e g = rw (eq-eqb c 0 (omega arith), e, g) (l .are)
+
+-- THE CLOSE: what is left over is listed behind the endings.
+-- Of the first n of some endings i stand behind the k that were listed.
+module _ (more : List Ending) (n : ℕ) where
+  abbrev pub Behind : (before : List Ending) → (k i : ℕ) → (now : List Ending) → Type 0
+  Behind before k i now = Written (λ x. x ∷ []) 1 (take n more) k i before now
+
+  pub behind-none : {before : List Ending} {k : ℕ} → Behind before k 0 before
+  behind-none = write-start (λ _. refl)
+
+  module _ {before now : List Ending} {k i : ℕ} (b : Behind before k i now) (within : n ≤ length more) where
+    first-n : length (take n more) ≡ n
+    first-n = length-take-le n more within
+
+    pub behind-more : length before ≡ 65 → k + n ≤ 65 → i < n → Behind before k (i + 1) (set now (k + i) (getD more i no-ending))
+    behind-more z h g =
+        let e = first-n in
+        write-next b no-ending {k = k + i} (omega arith) (omega arith) (omega arith)
+        (splice-one now (k + i) (getD more i no-ending) (omega (arith, b .long)) ∙ rw (at-taken no-ending more i n g))
+
+    pub behind-all : n ≤ i → now ≡ splice before k (take n more)
+    behind-all h = write-end b (omega (arith, first-n)) ∙ rw (flat-ones (take n more))
+
+-- All that is left over is listed.
+pub all-left : (s : State) → Is-slotted s → {left : List Ending} → left ≡ padded store no-ending (left-over (stored s)) → take (s .«signal_count») left ≡ left-over (stored s)
+all-left s z e = ap (take (s .«signal_count»)) e ∙ take-padded no-ending store (s .«signal_count») (left-over (stored s)) (length-left (stored s) ∙ stored-length s z)
+
+listed-left : {endings : List Ending} {k : ℕ} {es : List Ending} (s : State) → k + length (stored s) ≤ 65 → Listing no-ending 65 endings k es
+    → Listing no-ending 65 (splice endings k (left-over (stored s))) (k + length (stored s)) (es ++ left-over (stored s))
+listed-left {endings} {k} {es} s h l =
+    let left = left-over (stored s) in
+    let e = length-left (stored s) in
+    subst (λ n. Listing no-ending 65 (splice endings k left) (k + n) (es ++ left)) e (listing-splice no-ending left (omega arith) l)
 
 -- WHAT A TAKING SAYS: it ends its signal, orders nothing and reads no mapping answer.
 record Ends (v : Move) : Type 0 where
@@ -501,31 +542,36 @@ module _ (f : Workflow) (l : Limits) (e : Event) (m : Mappings) (v₀ : Round) w
           }
 
     -- No move follows.
-    resting : (t : State) (o : Order) → decide notes endings n k t (rest-answer o l j q) ≡ decision-of (finish-by Rest l (machine t Rest o (d .ns) (d .es) j q))
-    unfolding decide rest-answer finish-by decision-of if_then_else_
-    resting t o =
+    resting : (t : State) (o : Order) → k + t .«signal_count» ≤ 65 → decide notes endings n k t (rest-answer o l j q) ≡ decision-of (finish-by Rest l (machine t Rest o (d .ns) (d .es) j q))
+    unfolding decide rest-answer finish-by decision-of closed stored-as if_then_else_
+    resting t o h =
         split (ltb (l .commands) (orders o)) (λ a. rw a)
         (λ a. split (ltb (l .operations) q) (λ b. rw (a, b))
-        (λ b. rw (a, b, d .notes-are .is, d .notes-are .count, d .endings-are .is, d .endings-are .count)))
+        (λ b. split (leaves-over (t .status) (t .«signal_count»))
+        (λ c. let e = listed-left t (omega (arith, length-take (t .«signal_count») (t .signals))) (d .endings-are) in rw (a, b, c, d .notes-are .is, d .notes-are .count, e .is, e .count))
+        (λ c. rw (a, b, c, d .notes-are .is, d .notes-are .count, d .endings-are .is, d .endings-are .count))))
 
     -- With nothing stored the definition makes one more move, which says nothing.
-    waits-on : (t : State) (o : Order) → t .«signal_count» ≡ 0 → Runs (131 - j) (machine t Consume o (d .ns) (d .es) j q) → Bounds Consume (131 - j) (machine t Consume o (d .ns) (d .es) j q)
+    waits-on : (t : State) (o : Order) → k + t .«signal_count» ≤ 65 → t .«signal_count» ≡ 0 → Runs (131 - j) (machine t Consume o (d .ns) (d .es) j q) → Bounds Consume (131 - j) (machine t Consume o (d .ns) (d .es) j q)
         → decide notes endings n k t (rest-answer Order.Nothing l j q) ≡ decision-of (finish l at-end)
     unfolding finish-by advance-by consume-by operations-of
-    waits-on t o g r b =
+    waits-on t o h g r b =
         let y : machine t Rest Order.Nothing (d .ns) (d .es) j q ≡ advance f limit e m (machine t Consume o (d .ns) (d .es) j q) =
         rw (none-stored t (node-of f (t .position .node) .signal) g, none-more (d .ns) no-note refl, none-more (d .es) no-ending refl) (ap (machine t Rest Order.Nothing (d .ns) (d .es) j) (omega arith)) in
-        resting t Order.Nothing ∙ ap (λ (u : Machine). decision-of (finish l u)) (settled (settle-next r (omega (arith, b .enough)) refl refl y) refl refl)
+        resting t Order.Nothing h ∙ ap (λ (u : Machine). decision-of (finish l u)) (settled (settle-next r (omega (arith, b .enough)) refl refl y) refl refl)
 
-    ends-by : (t : State) (y : Next) (o : Order) → is-over y (t .«signal_count») ≡ true → Runs (131 - j) (machine t y o (d .ns) (d .es) j q)
+    ends-by : (t : State) (y : Next) (o : Order) → k + t .«signal_count» ≤ 65 → is-over y (t .«signal_count») ≡ true → Runs (131 - j) (machine t y o (d .ns) (d .es) j q)
         → Bounds y (131 - j) (machine t y o (d .ns) (d .es) j q) → decide notes endings n k t (answer-of y o l j q) ≡ decision-of (finish l at-end)
     unfolding is-over answer-of finish-by decide
-    ends-by t Rest o h r b = resting t o ∙ ap (λ (u : Machine). decision-of (finish l u)) (settled r refl refl)
-    ends-by t (Enter i c) o h r b = absurd (false≢true h)
-    ends-by t Take o h r b = absurd (false≢true h)
-    ends-by t Consume o h r b = waits-on t o (eqb-true _ _ h) r b
-    ends-by t (Wants i g c) o h r b = ap (λ (u : Machine). decision-of (finish l u)) (settled r refl refl)
-    ends-by t (Refuse i) o h r b = ap (λ (u : Machine). decision-of (finish l u)) (settled r refl refl)
+    ends-by t Rest o w h r b = resting t o w ∙ ap (λ (u : Machine). decision-of (finish l u)) (settled r refl refl)
+    ends-by t (Enter i c) o w h r b = absurd (false≢true h)
+    ends-by t Take o w h r b = absurd (false≢true h)
+    ends-by t Consume o w h r b = waits-on t o w (eqb-true _ _ h) r b
+    ends-by t (Wants i g c) o w h r b = ap (λ (u : Machine). decision-of (finish l u)) (settled r refl refl)
+    ends-by t (Refuse i) o w h r b = ap (λ (u : Machine). decision-of (finish l u)) (settled r refl refl)
+
+    pub few-left : k + v .state .«signal_count» ≤ 65
+    few-left = omega (arith, d .endings-are .count, d .going .bounds .few-endings)
 
     pub driving-ends : is-over (v .next) (v .state .«signal_count») ≡ true → decide notes endings n k (v .state) (answer-of (v .next) (v .order) l j q) ≡ decision-of (finish l at-end)
-    driving-ends h = ends-by (v .state) (v .next) (v .order) h (d .going .runs) (d .going .bounds)
+    driving-ends h = ends-by (v .state) (v .next) (v .order) few-left h (d .going .runs) (d .going .bounds)

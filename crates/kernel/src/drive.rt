@@ -15,16 +15,19 @@ use model::event::Mappings;
 use model::moves::Next;
 use model::moves::no_ending;
 use model::moves::no_note;
+use model::store::leaves_over;
 use workflow::code::NONE;
 use workflow::layout::NUMBERS;
 ghost use mathlib.Core.Path.{_≡_};
-ghost use Prim.Native.Nat.{_≤_};
+ghost use Prim.Native.Nat.{_+_, _≤_};
 ghost use lib.ListN.{take};
+ghost use Rattle.laws.specs.Splice.{splice};
 ghost use Rattle.workflow.specs.View.{workflow};
 ghost use Rattle.kernel.specs.Drive.{operations-of, driven};
+ghost use Rattle.kernel.specs.Cost.{takes};
 ghost use Rattle.kernel.specs.Call.{wants, refused, orders, finish};
 ghost use Rattle.kernel.specs.Decision.{decision-of};
-ghost use Rattle.kernel.specs.DriveLaws.{takes, entries, round-of, is-over, decide, rest-answer, answer-of, at-end, Begins};
+ghost use Rattle.kernel.specs.DriveLaws.{entries, round-of, is-over, decide, rest-answer, answer-of, at-end, Begins};
 
 // What a signal that is taken and the entry that follows make of a call: the record and what comes next, what was said, and how
 // many microsteps these were.
@@ -206,7 +209,27 @@ fn want(node: u32, field: u32, from: u32, state: State) -> Decision
     }
 }
 
-// What an answer hands back: a want has no notes and no endings, a refusal no record besides.
+// The first of some endings are listed behind the others.
+fn list_behind(
+    mut endings: [Ending; code::LIST],
+    ending_count: u32,
+    more: [Ending; record::STORE],
+    count: u32,
+) -> [Ending; code::LIST]
+    requires { ⌜ «ending_count» + count ≤ 65 ⌝ }
+    requires { ⌜ count ≤ 64 ⌝ }
+    ensures { λ r. ⌜ r ≡ splice endings «ending_count» (take count more) ⌝ }
+{
+    let mut i: u32 = 0;
+    while i < count {
+        let ending = more[i as usize];
+        endings[(ending_count + i) as usize] = ending;
+        i += 1;
+    }
+    endings
+}
+
+// What an answer hands back: a want has no notes and no endings, a refusal no record besides. A run that has ended leaves over what is still stored.
 fn decide(
     notes: [Note; code::LIST],
     endings: [Ending; code::LIST],
@@ -215,17 +238,33 @@ fn decide(
     answer: Answer,
     state: State,
 ) -> Decision
+    requires { ⌜ «ending_count» + state .«signal_count» ≤ 65 ⌝ }
+    requires { ⌜ state .«signal_count» ≤ 64 ⌝ }
     ensures { λ r. ⌜ r ≡ decide notes endings «note_count» «ending_count» state answer ⌝ }
 {
     match answer {
-        Answer::Next { order, microsteps } => Decision {
-            notes,
-            endings,
-            note_count,
-            ending_count,
-            answer: Answer::Next { order, microsteps },
-            state,
-        },
+        Answer::Next { order, microsteps } => {
+            if leaves_over(state.status, state.signal_count) {
+                let left = state.left_over();
+                let listed = list_behind(endings, ending_count, left, state.signal_count);
+                return Decision {
+                    notes,
+                    endings: listed,
+                    note_count,
+                    ending_count: ending_count + state.signal_count,
+                    answer: Answer::Next { order, microsteps },
+                    state: state.emptied(),
+                };
+            }
+            Decision {
+                notes,
+                endings,
+                note_count,
+                ending_count,
+                answer: Answer::Next { order, microsteps },
+                state,
+            }
+        }
         Answer::Wants { node, field, from } => want(node, field, from, state),
         Answer::Refused { number, item } => refusal(number, item),
     }

@@ -153,6 +153,9 @@ end-overflow = 3
 abbrev pub end-ignored : ℕ
 end-ignored = 4
 
+abbrev pub end-left-over : ℕ
+end-left-over = 5
+
 -- Refusals of a move: 0 is the original's kernel.invariant, which no call is answered with; 27 there is no time or number for a retry; 28 a mapping value can't be encoded.
 abbrev pub invariant : ℕ
 invariant = 0

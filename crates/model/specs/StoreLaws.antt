@@ -1,25 +1,27 @@
 -- What the store does, as a list: a signal is stored, or goes; and its part of the run check, place by place.
 use mathlib.Core.Path.{_≡_, refl, sym, _∙_, ap}
 use mathlib.Core.Bool.{Bool, true, false, not, false≢true}
-use mathlib.Core.List.{List, [], _∷_, _++_}
+use mathlib.Core.List.{List, [], _∷_, _++_, map-append}
 use Prim.Native.Nat.{ℕ, zero, suc, _+_, _-_, _≤_, _<_, min}
 use native.Mathlib.Omega.{arith}
 use native.Mathlib.Numerals.{add-one}
-use lib.ListN.{getD, set, take, drop, length, length-set, length-take}
-use lib.Seq.{take-suc-set, drop-set-lt, drop-cons}
+use lib.ListN.{getD, set, take, drop, replicate, length, length-map, length-set, length-take}
+use lib.Seq.{take-all, take-suc, take-suc-set, drop-set-lt, drop-cons}
 use lib.Dec.{ltb, leb·suc-zero, leb·suc-suc}
-use borrow.Author.Tests.{lt-ltb, le-leb, lt-leb, leb-true}
+use borrow.Author.Tests.{lt-ltb, le-leb, lt-leb, leb-true, ltb-true, ltb-false}
 use Rattle.laws.specs.Bool.{if_then_else_, _and_, if-true, and-true, and-left, both, join, split}
 use Rattle.laws.specs.First.{first, Seek}
 use Rattle.laws.specs.Rows.{rows, span}
 use Rattle.laws.specs.Every.{every, below, every-then, every-append, every-remove}
+use Rattle.laws.specs.Listing.{padded, Listing, listing-none, listing-more}
 use Rattle.laws.specs.Shift.{remove-at, without, take-without, drop-without, length-without}
 use Rattle.workflow.specs.declared.Found.the-variants.{At, Nothing}
-use Rattle.model.specs.Code.{store, largest}
+use Rattle.model.specs.Code.{store, largest, end-left-over}
 use Rattle.model.specs.Record.{no-signal, set-signals}
-use Rattle.model.specs.Store.{listed, stored, first-signal, signal-at, removed, appended, in-sequence, signal-zero, signals-fit, store-fits}
+use Rattle.model.specs.Store.{listed, stored, first-signal, signal-at, removed, appended, left-over, in-sequence, signal-zero, signals-fit, store-fits}
 use Rattle.model.specs.declared.BufferedSignal.{BufferedSignal}
 use Rattle.model.specs.declared.State.{State}
+use Rattle.model.specs.declared.answer.Ending.{Ending}
 
 -- THE ARRAY has its slots, and the count is within them.
 pub record Slotted (signals : List BufferedSignal) (count : ℕ) : Type 0 where
@@ -98,6 +100,39 @@ module _ (s : State) (i : ℕ) (t : Is-slotted s) (h : i < s .«signal_count») 
   stored-removed =
       let e : suc (s .«signal_count» - 1) ≡ s .«signal_count» = omega arith in
       rw (removed-at s i (t .room) h) (take-without no-signal (s .signals) i (s .«signal_count» - 1) (omega arith) (omega (arith, t .long, t .room)) ∙ rw e)
+
+-- LEFT OVER, as many as are stored; one after the other, the list of i of them in an array.
+pub length-left : (xs : List BufferedSignal) → length (left-over xs) ≡ length xs
+unfolding left-over
+length-left xs = length-map xs _
+
+pub record Leaving (none : Ending) (signals : List BufferedSignal) (count : ℕ) (endings : List Ending) (i : ℕ) : Type 0 where
+  pub listed-so : Listing none store endings i (left-over (take i signals))
+  pub low : i ≤ min store count
+
+pub leaving-none : {none : Ending} {signals : List BufferedSignal} {count : ℕ} → Leaving none signals count (replicate store none) 0
+unfolding left-over
+leaving-none {none} = record { listed-so = listing-none none; low = omega arith }
+
+module _ {none : Ending} {signals : List BufferedSignal} {count i : ℕ} {endings : List Ending} (l : Leaving none signals count endings i) (long : length signals ≡ 64) where
+  abbrev left : Ending
+  left = record { sequence = getD signals i no-signal .sequence; ending = end-left-over }
+
+  one-more-left : i < 64 → left-over (take (i + 1) signals) ≡ left-over (take i signals) ++ (left ∷ [])
+  unfolding left-over
+  one-more-left h = rw (add-one, take-suc signals i no-signal (omega arith), map-append)
+
+  pub leaving-more : i < min store count → Leaving none signals count (set endings i left) (i + 1)
+  leaving-more h = record { listed-so = rw (one-more-left (omega arith)) (listing-more none left (omega arith) (l .listed-so)); low = omega arith }
+
+  all-taken : i ≡ min store count → take i signals ≡ take count signals
+  all-taken e =
+      split (ltb store count) (λ h. take-all i signals (omega (arith, ltb-true store count h)) ∙ sym (take-all count signals (omega (arith, ltb-true store count h))))
+      (λ h. let g : i ≡ count = omega (arith, ltb-false store count h) in rw g)
+
+  pub leaving-all : min store count ≤ i → endings ≡ padded store none (left-over (listed signals count))
+  unfolding listed
+  leaving-all h = l .listed-so .is ∙ rw (all-taken (omega (arith, l .low)))
 
 -- THE RUN CHECK'S PART is kept.
 record Parts (signals : List BufferedSignal) (count : ℕ) : Type 0 where

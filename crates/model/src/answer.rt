@@ -39,7 +39,7 @@ pub struct Note {
     pub c: u32,
 }
 
-// How a signal, known by its sequence number, ended: 1 routed, 2 unrouted, 3 overflow, 4 ignored.
+// How a signal, known by its sequence number, ended: 1 routed, 2 unrouted, 3 overflow, 4 ignored, 5 left over.
 pub struct Ending {
     pub sequence: u64,
     pub ending: u32,

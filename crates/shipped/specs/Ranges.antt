@@ -36,13 +36,13 @@ use Rattle.model.specs.declared.moves.Next.{Next}
 use Rattle.model.specs.declared.moves.Next.the-variants.{Rest, Enter, Take, Consume, Wants, Refuse}
 use Rattle.model.specs.declared.moves.Move.{Move}
 use Rattle.model.specs.Record.{no-signal, no-visits, no-streak, no-node-result, no-position, no-invocation, fresh, visits-of, streak-of, set-signals, set-visits, set-streaks, set-results, seen, placed, finished}
-use Rattle.model.specs.Store.{listed, stored, signal-at, removed, appended}
+use Rattle.model.specs.Store.{listed, stored, signal-at, removed, appended, emptied}
 use Rattle.model.specs.Step.{position, no-mapping, answer, signal-outcome, streak-count, one-more-visit, phased, arrival, error, terminate, evaluate, schedule, enter-activity, enter-await, enter-complete, arrive, enter, follow-to, route-limited, route, take-by, retry}
 use Rattle.machine.specs.Events.{success-outcome, not-applicable, stick, on-ended, complete-invocation, fail-invocation, on-signal, on-success, on-failure, on-unknown, on-result, resolve-as-complete, resolve-as-fail, on-resolved, react}
 use Rattle.kernel.specs.declared.Limits.{Limits}
 use Rattle.kernel.specs.declared.Call.{Call}
 use Rattle.kernel.specs.Drive.{Machine, counting, consume-by, advance-by, advance, is-moving, started, driven}
-use Rattle.kernel.specs.Call.{Last, no-record, last, Answer, next, wants, refused, admission, given, finish-by, transition-by, transition}
+use Rattle.kernel.specs.Call.{Last, no-record, last, Answer, next, wants, refused, admission, given, closed, finish-by, transition-by, transition}
 use Rattle.host.specs.Fits.{Number, Name, Code, Error-fits, Output-fits, Kept-fits, Signal-fits, Streak-fits, Result-fits, Position-fits, Invocation-fits, Event-fits, Mapping-fits, Call-fits, Fits}
 use Rattle.shipped.specs.Sheet.{Sheet-fits, Sheet, admitted-sheet}
 
@@ -196,6 +196,10 @@ module _ {s : State} (t : Fits s) where
       either Fits _
       (λ r. fits-signals _ _ (length-without no-signal (s .signals) i (omega (arith, t .signals-long, ltb-true i (min 64 (s .«signal_count»)) r)) ∙ t .signals-long) (all-without Signal-fits no-signal (s .signals) i no-signal-fits (t .signals)) (omega (arith, t .signal-count)))
       (λ _. t)
+
+  fits-emptied : Fits (emptied s)
+  unfolding emptied
+  fits-emptied = fits-signals _ 0 refl (all-replicate Signal-fits 64 no-signal no-signal-fits) (omega arith)
 
   signal-fits : (i : ℕ) → Signal-fits (signal-at s i)
   unfolding signal-at listed
@@ -440,9 +444,13 @@ module _ (f : Workflow) (its : Sheet f) where
     held-driven s t = held-settle 131 (started f limit e m s) (good-react e event _ (fits-seen t _ _))
 
 -- THE CALL.
+closed-fits : (x : Machine) → Fits (x .state) → Fits (closed x .state)
+unfolding closed
+closed-fits x t = either (λ (y : Machine). Fits (y .state)) _ (λ _. fits-emptied t) (λ _. t)
+
 finish-fits : (n : Next) (l : Limits) (x : Machine) → Fits (x .state) → Record-fits (finish-by n l x)
 unfolding finish-by
-finish-fits Rest l x t = either Record-fits _ (λ _. tt) (λ _. either Record-fits _ (λ _. tt) (λ _. t))
+finish-fits Rest l x t = either Record-fits _ (λ _. tt) (λ _. either Record-fits _ (λ _. tt) (λ _. closed-fits x t))
 finish-fits (Wants n i b) l x t = t
 finish-fits (Refuse k) l x t = tt
 finish-fits (Enter n b) l x t = tt

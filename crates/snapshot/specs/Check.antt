@@ -21,7 +21,7 @@ use Rattle.model.specs.declared.Position.{Position}
 use Rattle.model.specs.declared.InvocationState.{InvocationState}
 use Rattle.model.specs.declared.State.{State}
 use Rattle.model.specs.Record.{no-node-result, visits-of, streak-of, is-terminal}
-use Rattle.model.specs.Store.{store-fits}
+use Rattle.model.specs.Store.{leaves-over, store-fits}
 
 -- UNUSED SLOTS are all zero.
 -- A used result has an output; an unused one is all zero.
@@ -132,6 +132,7 @@ live-fits sheet state =
 unfoldable pub stands : Workflow → State → Bool
 stands sheet state = if is-terminal (state .status) then terminal-fits state else live-fits sheet state
 
--- THE RUN CHECK: counters, store, slots, and where the run stands.
+-- THE RUN CHECK: counters, store, slots, where the run stands, and that an ended run holds no signal (document 02, T-02).
 unfoldable pub consistent : Workflow → State → Bool
-consistent sheet state = counters-fit state and store-fits state and slots-fit sheet state and stands sheet state
+consistent sheet state =
+    counters-fit state and store-fits state and slots-fit sheet state and stands sheet state and not (leaves-over (state .status) (state .«signal_count»))

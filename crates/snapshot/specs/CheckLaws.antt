@@ -20,7 +20,7 @@ use Rattle.workflow.specs.View.{Workflow}
 use Rattle.workflow.specs.Lookup.{node-of}
 use Rattle.model.specs.Record.{no-node-result, no-visits, visits-of, streak-of, is-terminal}
 use Rattle.snapshot.specs.Check.{result-unused, result-fits, result-zero, streak-fits, streak-zero, slots-fit, is-no-position, keeps-error, is-no-invocation, result-of-status, owned-by, phase-fits, counters-fit, stands, consistent}
-use Rattle.model.specs.Store.{store-fits}
+use Rattle.model.specs.Store.{leaves-over, store-fits}
 use Rattle.model.specs.Step.{no-mapping}
 use Rattle.snapshot.specs.EventCheck.{in-range}
 use Rattle.model.specs.declared.Kept.{Kept}
@@ -96,17 +96,19 @@ module _ (f : Workflow) (s : State) where
       sym (live-none f (s .status) (s .position) (s .invocation) (s .result))
       ∙ (rw (← past-getD Visits (s .visits) 64 (s .position .node) h g no-visits) at (stands-live e))
 
--- THE FOUR PARTS, which the code tests one after the other.
-four : (a b c d : Bool) → (((a && b) && c) && d) ≡ a and b and c and d
+-- THE FIVE PARTS, which the code tests one after the other.
+five : (a b c d e : Bool) → ((((a && b) && c) && d) && e) ≡ a and b and c and d and e
 unfolding _and_
-four true true true d = refl
-four true true false d = refl
-four true false c d = refl
-four false b c d = refl
+five true true true true e = refl
+five true true true false e = refl
+five true true false d e = refl
+five true false c d e = refl
+five false b c d e = refl
 
-pub by-parts : (f : Workflow) (s : State) {a b c d : Bool} → a ≡ counters-fit s → b ≡ store-fits s → c ≡ slots-fit f s → d ≡ stands f s → (((a && b) && c) && d) ≡ consistent f s
+pub by-parts : (f : Workflow) (s : State) {a b c d e : Bool} → a ≡ counters-fit s → b ≡ store-fits s → c ≡ slots-fit f s → d ≡ stands f s → e ≡ leaves-over (s .status) (s .«signal_count»)
+    → ((((a && b) && c) && d) && not e) ≡ consistent f s
 unfolding consistent
-by-parts f s {a} {b} {c} {d} p q r t = four a b c d ∙ rw (p, q, r, t)
+by-parts f s {a} {b} {c} {d} {e} p q r t u = five a b c d (not e) ∙ rw (p, q, r, t, u)
 
 -- THE EVENT. Of the two mapping answers those before the count are looked at.
 abbrev pub answers-fit : Mappings → Bool

@@ -11,6 +11,7 @@ use model::Visits;
 use model::code;
 use model::event::Event;
 use model::event::Mappings;
+use model::store::leaves_over;
 use workflow::Found;
 use workflow::Node;
 use workflow::code as sheet;
@@ -236,11 +237,15 @@ fn counters_fit(s: State) -> bool
     (s.last_sequence <= code::LARGEST) & (s.last_accepted_at <= code::LARGEST)
 }
 
-// The run check: counters, store, slots, and where the run stands.
+// The run check: counters, store, slots, where the run stands, and that no signal is left over.
 pub fn consistent(w: &[u32; NUMBERS], s: State) -> bool
     ensures { λ r. ⌜ r ≡ consistent (workflow (now (w .entry))) s ⌝ }
 {
-    counters_fit(s) & s.store_fits() & slots_fit(w, s) & stands(w, s)
+    counters_fit(s)
+        & s.store_fits()
+        & slots_fit(w, s)
+        & stands(w, s)
+        & !leaves_over(s.status, s.signal_count)
 }
 
 // The event.

@@ -97,6 +97,17 @@ fn a_run() {
     }
 }
 
+/// A write is no run check: what an ended run stores is written and read back.
+#[test]
+fn an_ended_run_that_stores() {
+    let mut run: [u64; RECORD] = numbers::record(&State::fresh(7)).try_into().unwrap();
+    for status in [4, 5] {
+        run[RECORD_STATUS] = status;
+        run[RECORD_STORED] = 1;
+        assert_eq!(read_run(&write_run(&run).unwrap()), Some(run));
+    }
+}
+
 /// A call with every row used, all outputs errors.
 fn used() -> Call {
     let start = joint::call(&joint::sheet(), None, joint::start());

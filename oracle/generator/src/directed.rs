@@ -1,14 +1,16 @@
-//! Calls that chance seldom reaches: Joint A, 130 microsteps, 65 notes and 65 endings, full sheets.
+//! Calls that chance seldom reaches: Joint A, every way to an end with something stored, 130 microsteps, 65 notes and 65
+//! endings, full sheets.
 
 use calls::{
-    BufferedSignal, Call, Ceilings, InvocationState, Node, Position, Rows, State, Streak, Workflow,
-    ACTIONS, NODES, NONE, STORE,
+    Action, BufferedSignal, Call, Ceilings, InvocationState, Limit, Node, Position, Rows, State,
+    Streak, Workflow, ACTIONS, NODES, NONE, STORE,
 };
 
 use crate::{full, joint};
 
 pub fn calls() -> Vec<Call> {
     let mut calls: Vec<Call> = joint::cases().into_iter().map(|case| case.call).collect();
+    calls.extend(ends());
     for limit in [130, 129, 131, 65, u32::MAX] {
         for outcome in [NONE, 4, 5, 9] {
             let mut call = spin(outcome);
@@ -64,6 +66,76 @@ pub fn at_counts() -> Vec<Call> {
         call
     };
     sheets.iter().map(start).collect()
+}
+
+/// Every way to an end, on Joint A with something stored.
+fn ends() -> Vec<Call> {
+    let storing = |mut state: State| {
+        joint::store(&mut state, 6, NONE);
+        joint::store(&mut state, 5, 9);
+        state
+    };
+    let scheduled = storing(joint::scheduled());
+    let waiting = storing(joint::waiting());
+    let stuck = storing(joint::stuck());
+    let mut unknown = scheduled.clone();
+    unknown.status = 3;
+    unknown.invocation.phase = 2;
+    let mut routed = unknown.clone();
+    joint::store(&mut routed, 5, NONE);
+    let sheet = joint::sheet();
+    let on = |state: &State, event| joint::call(&sheet, Some(state), event);
+    let [through, again] = [NONE, 4].map(|outcome| joint::signal(5, outcome));
+    let mut calls = vec![
+        on(&waiting, through),
+        on(&unknown, joint::resolved(3)),
+        on(&stuck, joint::resolved(3)),
+        on(&routed, joint::resolved(1)),
+    ];
+    // The fail node, and both limits.
+    let changes: [fn(&mut State); 3] = [
+        |state| {
+            state.streaks[1] = Streak {
+                outcome: 4,
+                count: 1,
+            }
+        },
+        |state| state.visits[0] = 3,
+        |state| state.activations = 10,
+    ];
+    for change in changes {
+        let mut state = waiting.clone();
+        change(&mut state);
+        calls.push(on(&state, again));
+    }
+    // Faults at output, input and params.
+    for event in [through, again] {
+        let mut call = on(&waiting, event);
+        call.mappings.answers[0].kind = 2;
+        calls.push(call);
+    }
+    let mut call = on(&waiting, again);
+    call.workflow.nodes[0].has_params = 1;
+    call.mappings.count = 2;
+    call.mappings.answers[1].kind = 2;
+    calls.push(call);
+    // In format 1 a failure without a route ends the run.
+    let mut old = sheet.clone();
+    old.format = 1;
+    old.nodes[1].has_limits = 0;
+    old.limit_count = 0;
+    old.limits[0] = Limit::default();
+    old.actions[0] = Action {
+        effect: 0,
+        max_attempts: 1,
+    };
+    let mut undeclared = joint::result(0, 1, 1, 1);
+    undeclared.outcome = 9;
+    let [failure, expired] = [2, 4].map(|status| joint::result(0, 1, 1, status));
+    for event in [undeclared, failure, expired] {
+        calls.push(joint::call(&old, Some(&scheduled), event));
+    }
+    calls
 }
 
 fn wide(mut call: Call) -> Call {

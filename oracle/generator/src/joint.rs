@@ -1,9 +1,10 @@
-//! The twelve cases of Joint A, with the answers that document 01's text gives them.
+//! The twelve cases of Joint A, with the answers that document 01's text gives them, and what is left over where its run
+//! ends, with those that 02's gives.
 
 use calls::{
     Answer, BufferedSignal, Call, Ceilings, Ending, ErrorInfo, Event, InvocationState, Limits,
     Mapping, Mappings, Node, NodeResult, Note, Order, Output, Position, Rows, State, Streak,
-    Workflow, MOST, NONE,
+    Workflow, MOST, NONE, STORE,
 };
 
 pub struct Case {
@@ -121,6 +122,19 @@ pub fn result(node: u32, visit: u32, attempt: u32, status: u32) -> Event {
     }
 }
 
+/// An operator's word on the first visit of node 0.
+pub(crate) fn resolved(resolution: u32) -> Event {
+    Event {
+        kind: 4,
+        visit: 1,
+        resolution,
+        output: OUTPUT,
+        code: CODE,
+        detail: DETAIL,
+        ..Event::default()
+    }
+}
+
 fn next(
     state: &State,
     orders: Vec<Order>,
@@ -208,7 +222,78 @@ fn taken(state: &mut State, visit: u32, outcome: u32) {
     };
 }
 
+/// Stores an arrival.
+pub(crate) fn store(state: &mut State, signal: u32, outcome: u32) {
+    state.last_sequence += 1;
+    state.signals[state.signal_count as usize] = BufferedSignal {
+        sequence: state.last_sequence,
+        event_id: event_id_of(state.last_sequence),
+        signal,
+        outcome,
+        data: DATA,
+    };
+    state.signal_count += 1;
+}
+
+/// Takes a signal without outcome at node 1 and counts the visit of node 2.
+fn to_2(state: &mut State) {
+    taken(state, 1, 1);
+    state.visits[2] = 1;
+    state.activations += 1;
+}
+
+/// Ends the run; nothing stays stored.
+fn end(state: &mut State, status: u32, result: Output) {
+    state.status = status;
+    state.position = Position::NONE;
+    state.invocation = InvocationState::NONE;
+    state.result = result;
+    state.signal_count = 0;
+    state.signals = [BufferedSignal::default(); STORE];
+}
+
+/// Ends the run at node 2 with the value of its last call.
+fn complete(state: &mut State) {
+    to_2(state);
+    end(state, 4, Output::Handle(value_of(state.last_sequence)));
+}
+
+/// After case 1.
+pub(crate) fn scheduled() -> State {
+    let mut state = State::fresh(INPUT);
+    at_0(&mut state, 1, 501);
+    state
+}
+
+/// After case 2.
+pub(crate) fn waiting() -> State {
+    let mut state = scheduled();
+    at_1(&mut state, 1);
+    state
+}
+
+/// After case 9.
+pub(crate) fn stuck() -> State {
+    let mut state = scheduled();
+    state.status = 3;
+    state.invocation.phase = 3;
+    state.invocation.error = Some(ErrorInfo {
+        code: 5,
+        node: 0,
+        detail: 0,
+    });
+    state.last_sequence += 1;
+    state
+}
+
+/// All of them.
 pub fn cases() -> Vec<Case> {
+    let mut cases = twelve();
+    cases.extend(left_over());
+    cases
+}
+
+pub fn twelve() -> Vec<Case> {
     let sheet = sheet();
     let mut cases = Vec::new();
     let mut add = |name, call: Call, expected| {
@@ -219,16 +304,14 @@ pub fn cases() -> Vec<Case> {
         })
     };
 
-    let mut first = State::fresh(INPUT);
-    at_0(&mut first, 1, 501);
+    let first = scheduled();
     add(
         "1: start schedules 0, visit 1, attempt 1",
         call(&sheet, None, start()),
         next(&first, vec![schedule(1, 501)], vec![], vec![], 1),
     );
 
-    let mut second = first.clone();
-    at_1(&mut second, 1);
+    let second = waiting();
     add(
         "2: success leads to waiting at 1, visit 1",
         call(&sheet, Some(&first), result(0, 1, 1, 1)),
@@ -265,13 +348,12 @@ pub fn cases() -> Vec<Case> {
     failed.visits[3] = 1;
     failed.activations += 1;
     failed.last_sequence += 1;
-    failed.status = 5;
-    failed.position = Position::NONE;
-    failed.result = Output::Error(ErrorInfo {
+    let error = ErrorInfo {
         code: CODE,
         node: 3,
         detail: DETAIL,
-    });
+    };
+    end(&mut failed, 5, Output::Error(error));
     add(
         "4: again after success",
         call(&sheet, Some(&third), result(0, 2, 1, 1)),
@@ -295,13 +377,13 @@ pub fn cases() -> Vec<Case> {
     tight.limits.microsteps = 2;
     add("5: case 3 at limit 2", tight, third_answer);
 
-    let mut waiting = second.clone();
-    waiting.last_sequence += 1;
+    let mut still = second.clone();
+    still.last_sequence += 1;
     add(
         "6: signal 5 with 3: note 5, still waiting",
         call(&sheet, Some(&second), signal(5, 3)),
         next(
-            &waiting,
+            &still,
             vec![],
             vec![note(5, 1, event_id_of(3), 3, 0)],
             vec![ending(3, 2)],
@@ -355,19 +437,10 @@ pub fn cases() -> Vec<Case> {
         refused(27, NONE),
     );
 
-    let mut stuck = first.clone();
-    stuck.status = 3;
-    stuck.invocation.phase = 3;
-    stuck.invocation.error = Some(ErrorInfo {
-        code: 5,
-        node: 0,
-        detail: 0,
-    });
-    stuck.last_sequence += 1;
     add(
         "9: failure not retryable: stuck",
         call(&sheet, Some(&first), result(0, 1, 1, 2)),
-        next(&stuck, vec![], vec![note(7, 0, 1, 1, 5)], vec![], 0),
+        next(&stuck(), vec![], vec![note(7, 0, 1, 1, 5)], vec![], 0),
     );
 
     let mut idle = call(&sheet, None, start());
@@ -385,29 +458,18 @@ pub fn cases() -> Vec<Case> {
     add("11: limit 3 on outcome 4", limited, refused(12, 1));
 
     let mut full = second.clone();
-    for i in 0..64 {
-        full.last_sequence += 1;
-        full.signals[i] = BufferedSignal {
-            sequence: full.last_sequence,
-            event_id: event_id_of(full.last_sequence),
-            signal: 6,
-            outcome: NONE,
-            data: DATA,
-        };
+    for _ in 0..STORE {
+        store(&mut full, 6, NONE);
     }
-    full.signal_count = 64;
     let mut completed = full.clone();
     completed.last_sequence += 1;
-    taken(&mut completed, 1, 1);
-    completed.visits[2] = 1;
-    completed.activations += 1;
-    completed.status = 4;
-    completed.position = Position::NONE;
-    completed.result = Output::Handle(567);
+    complete(&mut completed);
+    let mut endings = vec![ending(67, 1)];
+    endings.extend((3..67).map(|sequence| ending(sequence, 5)));
     add(
         "12: full store: a matching arrival is taken",
         call(&sheet, Some(&full), signal(5, NONE)),
-        next(&completed, vec![], vec![], vec![ending(67, 1)], 2),
+        next(&completed, vec![], vec![], endings, 2),
     );
     let mut dropped = full.clone();
     dropped.last_sequence += 1;
@@ -421,6 +483,107 @@ pub fn cases() -> Vec<Case> {
             vec![ending(67, 3)],
             0,
         ),
+    );
+    cases
+}
+
+/// What is left over where a run ends, and an ended run that stores.
+pub fn left_over() -> Vec<Case> {
+    let sheet = sheet();
+    let mut cases = Vec::new();
+    let mut add = |name, call: Call, expected| {
+        cases.push(Case {
+            name,
+            call,
+            expected,
+        })
+    };
+
+    let mut two = waiting();
+    store(&mut two, 6, NONE);
+    store(&mut two, 6, NONE);
+    let arrival = call(&sheet, Some(&two), signal(5, NONE));
+    let mut completed = two.clone();
+    completed.last_sequence += 1;
+    complete(&mut completed);
+    add(
+        "left over: two of signal 6, behind the arrival",
+        arrival.clone(),
+        next(
+            &completed,
+            vec![],
+            vec![],
+            vec![ending(5, 1), ending(3, 5), ending(4, 5)],
+            2,
+        ),
+    );
+
+    let mut lacking = arrival.clone();
+    lacking.mappings = Mappings::default();
+    let mut wanted = two.clone();
+    wanted.last_sequence += 1;
+    to_2(&mut wanted);
+    add(
+        "left over: none at a want, which keeps the store",
+        lacking,
+        Answer::Wants {
+            node: 2,
+            field: 2,
+            from: 1,
+            state: Box::new(wanted),
+        },
+    );
+    let mut costly = arrival;
+    costly.mappings.answers[0].operations = 11;
+    add("left over: none at a refusal", costly, refused(30, NONE));
+
+    let mut early = scheduled();
+    store(&mut early, 5, 9);
+    store(&mut early, 6, NONE);
+    store(&mut early, 5, NONE);
+    store(&mut early, 5, NONE);
+    let mut through = early.clone();
+    at_1(&mut through, 1);
+    complete(&mut through);
+    add(
+        "left over: one of each, behind an unrouted and a routed one",
+        call(&sheet, Some(&early), result(0, 1, 1, 1)),
+        next(
+            &through,
+            vec![],
+            vec![note(5, 1, event_id_of(2), 9, 0)],
+            vec![ending(2, 2), ending(4, 1), ending(3, 5), ending(5, 5)],
+            4,
+        ),
+    );
+
+    let mut parked = stuck();
+    store(&mut parked, 5, NONE);
+    let kept = parked.invocation.error.expect("it is stuck");
+    let mut failed = parked.clone();
+    failed.last_sequence += 1;
+    end(&mut failed, 5, Output::Error(kept));
+    add(
+        "left over: one at an operator's fail of a stuck run",
+        call(&sheet, Some(&parked), resolved(3)),
+        next(&failed, vec![], vec![], vec![ending(3, 5)], 0),
+    );
+
+    let mut stored = completed;
+    store(&mut stored, 6, NONE);
+    let noted = Event {
+        kind: 5,
+        ..Event::default()
+    };
+    add(
+        "left over: an ended run that stores one is inconsistent",
+        call(&sheet, Some(&stored), noted),
+        refused(25, NONE),
+    );
+    add(
+        "left over: a start with it is still 24",
+        call(&sheet, Some(&stored), start()),
+        refused(24, NONE),
     );
     cases
 }

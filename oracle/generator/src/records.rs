@@ -125,7 +125,7 @@ pub fn edit(rng: &mut Rng, workflow: &Workflow, state: &mut State) {
     let nodes = workflow.node_count.clamp(1, NODES as u32);
     let ended = state.status > 3;
     match rng.below(13) {
-        0..=2 => fill(rng, workflow, state),
+        0..=2 if !ended => fill(rng, workflow, state),
         3 => {
             let node = rng.small(nodes);
             if ended || node != state.position.node {
@@ -195,6 +195,10 @@ fn repark(rng: &mut Rng, workflow: &Workflow, state: &mut State) {
 
 /// Damages one thing. Not everything here breaks the run check; some of it no record of the boundary holds.
 pub fn damage(rng: &mut Rng, workflow: &Workflow, state: &mut State) {
+    // An ended run stores nothing.
+    if state.status > 3 && rng.percent(20) {
+        return fill(rng, workflow, state);
+    }
     match rng.below(10) {
         0 => {
             state.status = match rng.percent(70) {

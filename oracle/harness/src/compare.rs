@@ -100,25 +100,21 @@ impl Comparison {
             differs: false,
             parted: None,
         };
-        match reason.map(Reason::said) {
-            None => {
-                compared.answer = self.original(call).ok();
-                let agrees = |right: &Answer| !self.parts_from(call, &plain, right);
-                compared.differs = !compared.answer.as_ref().is_some_and(agrees);
-            }
-            Some(None) => {
-                compared.differs = self.parts_from(call, &plain, &plain);
-                compared.answer = Some(plain);
-            }
-            Some(Some(due)) => {
-                let said = Asked::of(call).compare(&self.boundaries);
-                compared.parted = match said {
-                    Ok(said) if said == due => None,
-                    Ok(said) => Some(format!("the boundary says {said}, not {due}")),
-                    Err(why) => Some(why),
-                };
-            }
+        if let Some(due) = reason.and_then(Reason::said) {
+            let said = Asked::of(call).compare(&self.boundaries);
+            compared.parted = match said {
+                Ok(said) if said == due => None,
+                Ok(said) => Some(format!("the boundary says {said}, not {due}")),
+                Err(why) => Some(why),
+            };
+            return compared;
         }
+        compared.answer = match reason {
+            None => self.original(call).ok(),
+            Some(reason) => Some(reason.answer(plain.clone())),
+        };
+        let agrees = |right: &Answer| !self.parts_from(call, &plain, right);
+        compared.differs = !compared.answer.as_ref().is_some_and(agrees);
         compared
     }
 
@@ -132,9 +128,13 @@ impl Comparison {
             Ok(answer) => println!("  {name:8} {}", text::print_answer(&answer)),
             Err(why) => println!("  {name:8} {why}"),
         };
-        match self.call(&small).reason {
-            None => show("original", self.original(&small)),
-            Some(reason) => println!("  {:8} {}", "original", reason.text()),
+        let Compared { answer, reason, .. } = self.call(&small);
+        match (reason, answer) {
+            (None, _) => show("original", self.original(&small)),
+            (Some(reason), due) => {
+                println!("  {:8} {}", "original", reason.text());
+                due.into_iter().for_each(|due| show("due", Ok(due)));
+            }
         }
         show("plain", Ok((self.plain)(&small)));
         for side in &self.sides {
@@ -237,7 +237,7 @@ impl Comparison {
     }
 }
 
-/// After how many random calls each wrong reading parts from the original.
+/// After how many random calls each wrong reading parts from the right answer.
 pub fn wrong(seeds: &[u64], calls: u64) -> bool {
     let readings = wrong::readings();
     std::panic::set_hook(Box::new(|_| {}));
@@ -282,7 +282,7 @@ fn wrong_seed(seed: u64, calls: u64, readings: &[wrong::Reading]) -> Vec<Option<
     let mut first: Vec<Option<u64>> = vec![None; readings.len()];
     for n in 1..=calls {
         let call = generator.call();
-        let Some(right) = right(&call, &mut generator) else {
+        let Some(right) = right(&call) else {
             continue;
         };
         for (reading, first) in readings.iter().zip(&mut first) {
@@ -298,19 +298,28 @@ fn wrong_seed(seed: u64, calls: u64, readings: &[wrong::Reading]) -> Vec<Option<
     first
 }
 
-/// The original's answer to a call that is compared; the generator is told the answer to another.
-pub fn right(call: &Call, generator: &mut Generator) -> Option<Answer> {
+/// The right answer where there is one: the original's, or, of a call that isn't compared with it, the one that is due.
+pub fn right(call: &Call) -> Option<Answer> {
     let plain = plain::answer(call);
-    let Some(reason) = Reason::of(call, &plain) else {
-        return Some(original::answer_fast(call));
-    };
-    if reason.said().is_none() {
-        generator.answered(call, &plain);
+    match Reason::of(call, &plain) {
+        None => Some(original::answer_fast(call)),
+        Some(reason) if reason.said().is_none() => Some(reason.answer(plain)),
+        Some(_) => None,
     }
-    None
 }
 
-/// Whether a wrong reading answers like the original; one that gives up doesn't.
+/// The answers of both; of a call that isn't compared with the original, the plain reading's.
+pub fn both(call: &Call) -> Vec<(&'static str, Answer)> {
+    let plain = plain::answer(call);
+    let mut answers = Vec::new();
+    if Reason::of(call, &plain).is_none() {
+        answers.push(("original", original::answer(call)));
+    }
+    answers.push(("plain", plain));
+    answers
+}
+
+/// Whether a wrong reading answers rightly; one that gives up doesn't.
 pub fn answers(reading: &wrong::Reading, call: &Call, right: &Answer) -> bool {
     let answer = catch_unwind(AssertUnwindSafe(|| (reading.answer)(call)));
     answer.is_ok_and(|answer| answer == *right)
@@ -343,10 +352,7 @@ pub fn recorded(files: &[String]) -> Result<bool, String> {
             let call = text::parse_call(call).map_err(|why| format!("{file}: {why:?}"))?;
             let answer = text::parse_answer(answer).map_err(|why| format!("{file}: {why:?}"))?;
             read += 1;
-            for (who, found) in [
-                ("original", original::answer(&call)),
-                ("plain", plain::answer(&call)),
-            ] {
+            for (who, found) in both(&call) {
                 if found != answer {
                     differences += 1;
                     println!("{who} parts from {file}");
@@ -392,7 +398,11 @@ mod tests {
         let (counts, differences) = plain().seed(1, CALLS);
         assert_eq!(differences, 0);
         assert_eq!(counts.calls + counts.left(), CALLS);
-        for reason in [Reason::CallNumber, Reason::RecordNumber] {
+        for reason in [
+            Reason::CallNumber,
+            Reason::RecordNumber,
+            Reason::StoredAtEnd,
+        ] {
             let count = counts.left_for(reason);
             assert!(count > 0);
             let row = format!("| {} | {count} |", reason.text());
@@ -464,6 +474,73 @@ mod tests {
         let (counts, differences) = comparison.seed(1, CALLS);
         assert!(counts.left_for(Reason::AddedRefusal) > 20);
         assert!(differences > 20);
+    }
+
+    fn stores_at_end(call: &Call) -> bool {
+        let state = call.state.as_ref();
+        state.is_some_and(|state| state.status > 3 && state.signal_count > 0)
+    }
+
+    /// Lacks the check of what an ended run stores.
+    fn unchecked(call: &Call) -> Answer {
+        match plain::answer(call) {
+            Answer::Refused { number: 25, .. } if stores_at_end(call) => {
+                original::answer_fast(call)
+            }
+            answer => answer,
+        }
+    }
+
+    #[test]
+    fn a_record_that_only_an_added_check_refuses_leaves() {
+        let mut comparison = Comparison {
+            sides: vec![Side {
+                name: "the same",
+                answer: |call| Ok(plain::answer(call)),
+            }],
+            ..plain()
+        };
+        let (counts, differences) = comparison.seed(1, CALLS);
+        assert_eq!(differences, 0);
+        assert!(counts.left_for(Reason::StoredAtEnd) > 10);
+        // A side that lacks the check is found, though it answers as the original does; and so is a plain reading.
+        comparison.sides[0].answer = |call| Ok(unchecked(call));
+        assert!(comparison.seed(1, CALLS).1 > 0);
+        comparison.sides.clear();
+        comparison.plain = unchecked;
+        assert!(comparison.seed(1, CALLS).1 > 0);
+        // The check is found where no reason names it, and other refusals of such records where a reason names all.
+        comparison.plain = plain::answer;
+        comparison.reason =
+            |call, plain| Reason::of(call, plain).filter(|it| *it != Reason::StoredAtEnd);
+        assert!(comparison.seed(1, CALLS).1 > 0);
+        comparison.reason = |call, plain| {
+            let reason = Reason::of(call, plain);
+            reason.or(stores_at_end(call).then_some(Reason::StoredAtEnd))
+        };
+        assert!(comparison.seed(1, CALLS).1 > 0);
+    }
+
+    /// Where the call ends the run, what was stored stays.
+    fn left_stored(call: &Call) -> Answer {
+        let mut answer = plain::answer(call);
+        if let Answer::Next { state, endings, .. } = &mut answer {
+            endings.retain(|it| it.ending != 5);
+            if let (true, Some(before)) = (state.status > 3, &call.state) {
+                state.signal_count = before.signal_count;
+                state.signals = before.signals;
+            }
+        }
+        answer
+    }
+
+    #[test]
+    fn what_is_left_over_is_compared() {
+        let comparison = Comparison {
+            plain: left_stored,
+            ..plain()
+        };
+        assert_eq!(comparison.seed(1, CALLS).1, 1);
     }
 
     const OTHER_INPUT: u32 = 7_777;

@@ -3,7 +3,7 @@
 use std::collections::BTreeMap;
 
 use calls::layout::{ENDINGS, NOTES};
-use calls::{Answer, Call, Note, Order, Output, NONE};
+use calls::{Answer, Call, Note, Order, Output, State, NONE};
 use generator::fields::{Field, FIELDS};
 
 use crate::asked::Asked;
@@ -18,6 +18,9 @@ const ABOVE: [(u64, &str); 6] = [
     (1 << 63, "2^63"),
     (u64::MAX, "2^64 - 1"),
 ];
+
+/// The ending of what is stored where a run ends.
+const LEFT_OVER: u32 = 5;
 
 #[derive(Default)]
 pub struct Counts {
@@ -84,7 +87,12 @@ impl Counts {
         let said = (0..=6).map(|said| format!("boundary says {said}"));
         let at_boundary = fields.chain(numbers).chain(said);
         let keys = required().into_iter().chain(at_boundary);
-        keys.filter(|key| self.of(key) == 0).collect()
+        let missing = keys.filter(|key| self.of(key) == 0);
+        let reasons = Reason::ALL.into_iter();
+        let reasons = reasons.filter(|it| it.is_due() && self.left_for(*it) == 0);
+        missing
+            .chain(reasons.map(|it| it.text().to_string()))
+            .collect()
     }
 
     /// Rows of a table in Markdown.
@@ -149,6 +157,15 @@ pub fn keys(call: &Call, answer: &Answer) -> Vec<String> {
             if endings.len() == ENDINGS {
                 keys.push(format!("{ENDINGS} endings"));
             }
+            if endings.iter().any(|it| it.ending == LEFT_OVER) {
+                keys.push(left_over_key(way(call, state, *microsteps)));
+                if (call.event.kind, call.event.resolution) == (4, 1) {
+                    keys.push(left_over_key("operator's complete"));
+                }
+                if endings.len() == ENDINGS {
+                    keys.push(format!("left over in {ENDINGS} endings"));
+                }
+            }
             keys.extend(error_keys(call, answer));
         }
     }
@@ -192,6 +209,56 @@ fn note_key(note: &Note) -> String {
     }
 }
 
+/// The ways to an end with something stored.
+const WAYS: [&str; 13] = [
+    "complete",
+    "fail node",
+    "fault at input",
+    "fault at params",
+    "fault at output",
+    "visit limit",
+    "activation limit",
+    "failure",
+    "undeclared outcome",
+    "attempts exhausted",
+    "operator's fail, unknown",
+    "operator's fail, stuck",
+    "operator's complete",
+];
+
+fn left_over_key(way: &str) -> String {
+    format!("left over: {way}")
+}
+
+/// How the call ended the run, but for an operator's complete, which leads to one of these.
+fn way(call: &Call, state: &State, microsteps: u32) -> &'static str {
+    let Output::Error(error) = state.result else {
+        return "complete";
+    };
+    let before = call.state.as_ref().expect("a store");
+    if microsteps == 0 {
+        let phase = before.invocation.phase;
+        return match (call.event.kind, call.event.status, phase) {
+            (3, 1, _) => "undeclared outcome",
+            (3, 2, _) => "failure",
+            (3, _, _) => "attempts exhausted",
+            (_, _, 3) => "operator's fail, stuck",
+            _ => "operator's fail, unknown",
+        };
+    }
+    // The last node to be entered; one that a call enters more than once is an await node.
+    let node = error.node as usize;
+    let entered = state.visits[node] != before.visits[node];
+    match (call.workflow.nodes[node].kind, entered) {
+        (2, _) | (_, false) if error.code == 1 => "visit limit",
+        (2, _) | (_, false) => "activation limit",
+        (3, _) => "fault at output",
+        (4, _) => "fail node",
+        _ if call.mappings.answers[0].kind == 2 => "fault at input",
+        _ => "fault at params",
+    }
+}
+
 /// Which kernel codes this call brought into the record, and where.
 fn error_keys(call: &Call, answer: &Answer) -> Vec<String> {
     let Answer::Next { state, .. } = answer else {
@@ -232,8 +299,11 @@ pub fn required() -> Vec<String> {
         keys.push(format!("next, event {status}"));
         keys.push(format!("run's error, code {status}"));
     }
-    for ending in 1..=4 {
+    for ending in 1..=LEFT_OVER {
         keys.push(format!("ending {ending}"));
+    }
+    for way in WAYS {
+        keys.push(left_over_key(way));
     }
     for kind in 2..=5 {
         keys.push(format!("note 1, kind {kind}"));
@@ -272,5 +342,24 @@ pub fn required() -> Vec<String> {
     }
     keys.push(format!("{NOTES} notes"));
     keys.push(format!("{ENDINGS} endings"));
+    keys.push(format!("left over in {ENDINGS} endings"));
     keys
+}
+
+#[cfg(test)]
+mod tests {
+    use generator::directed;
+
+    use super::*;
+
+    #[test]
+    fn directed_calls_reach_every_way_to_an_end() {
+        let mut counts = Counts::default();
+        for call in directed::calls() {
+            counts.count(&call, &plain::answer(&call));
+        }
+        for way in WAYS {
+            assert!(counts.of(&left_over_key(way)) > 0, "{way}");
+        }
+    }
 }

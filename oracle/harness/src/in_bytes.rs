@@ -563,7 +563,7 @@ impl Comparison {
             left -= count;
             self.damaged_at_random(&made, &before, count);
             let answer = plain::answer(&call);
-            if Reason::of(&call, &answer).is_none() {
+            if Reason::of_numbers(&call).is_none() {
                 self.answered(&made, &answer);
                 generator.answered(&call, &answer);
             }

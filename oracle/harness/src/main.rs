@@ -176,10 +176,7 @@ fn program(words: &[String]) -> Result<bool, String> {
 fn joint() -> bool {
     let mut good = true;
     for case in joint::cases() {
-        for (who, answer) in [
-            ("original", original::answer(&case.call)),
-            ("plain", plain::answer(&case.call)),
-        ] {
+        for (who, answer) in compare::both(&case.call) {
             let agrees = answer == case.expected;
             good &= agrees;
             println!(
@@ -235,8 +232,9 @@ mod tests {
     #[test]
     fn joint_a() {
         for case in joint::cases() {
-            assert_eq!(original::answer(&case.call), case.expected, "{}", case.name);
-            assert_eq!(plain::answer(&case.call), case.expected, "{}", case.name);
+            for (who, answer) in compare::both(&case.call) {
+                assert_eq!(answer, case.expected, "{who}, {}", case.name);
+            }
         }
     }
 

@@ -247,8 +247,8 @@ impl Comparison<'_> {
             self.tally.place = format!("seed {seed}, call {n}");
             let call = generator.call();
             let whole = Whole::of(&call);
-            let answer = plain::answer(&call);
-            let answer = Some(answer).filter(|answer| Reason::of(&call, answer).is_none());
+            let answered = Reason::of_numbers(&call).is_none();
+            let answer = answered.then(|| plain::answer(&call));
             self.call(&whole, answer.as_ref());
             let count = left.min(DAMAGED);
             left -= count;

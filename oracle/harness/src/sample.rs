@@ -1,4 +1,4 @@
-//! The sample: calls of the generator with the original's answers, in the lines of `docs/NUMBERS.md`.
+//! The sample: calls of the generator with the right answers, in the lines of `docs/NUMBERS.md`.
 
 use std::collections::{BTreeMap, BTreeSet};
 use std::fs;
@@ -65,12 +65,12 @@ fn is_long(key: &str) -> bool {
     quota(key) <= 20 && !key.contains(" item ")
 }
 
-/// The generator's calls that are compared, with the original's answers, in their order.
+/// The generator's calls that have an answer, with the right one, in their order.
 fn each_call(seed: u64, mut take: impl FnMut(usize, &Call, &Answer)) {
     let mut generator = Generator::new(seed);
     for n in 0..TRIED {
         let call = generator.call();
-        if let Some(answer) = compare::right(&call, &mut generator) {
+        if let Some(answer) = compare::right(&call) {
             take(n, &call, &answer);
             generator.answered(&call, &answer);
         }
@@ -203,12 +203,13 @@ fn readme(seed: u64, sample: &Sample) -> String {
     }
     format!(
         "# The sample\n\n\
-        `crates/replay/stdin` holds {} calls with the original's answers, in the lines of `docs/NUMBERS.md` ({} bytes).\n\n\
+        `crates/replay/stdin` holds {} calls with their answers, in the lines of `docs/NUMBERS.md` ({} bytes).\n\n\
         Made by `oracle/target/release/harness sample {seed}` after `sh oracle/build`: the generator's calls of that\n\
-        seed, the directed calls first (Joint A, 130 microsteps, 65 notes, 65 endings), each answered by the\n\
-        original. Of {TRIED} calls those were chosen that show something not yet shown often enough ({} times for most\n\
-        things) or that one of the wrong readings of `oracle/wrong/edits` answers wrongly and fewer than {TELLING} calls\n\
-        before, short ones where that can be; and further calls on the same sheets were taken along. Calls whose\n\
+        seed, the directed calls first (Joint A, every way to an end with something stored, 130 microsteps, 65 notes,\n\
+        65 endings), each answered by the original, or with 25 where a run has ended with something stored, which the\n\
+        original takes. Of {TRIED} calls those were chosen that show something not yet shown often enough ({} times for\n\
+        most things) or that one of the wrong readings of `oracle/wrong/edits` answers wrongly and fewer than {TELLING}\n\
+        calls before, short ones where that can be; and further calls on the same sheets were taken along. Calls whose\n\
         event or record holds a number that its field can't (names above 255, error codes above 65535) are left out;\n\
         sheets with such numbers are in. The same seed gives the same bytes. `harness read-sample` reads it back,\n\
         compares it with the original and the plain reading, and counts the wrong readings that it finds.\n\n\
@@ -238,7 +239,7 @@ pub fn read() -> Result<bool, String> {
         for reading in tells(&readings, &told, &call, &answer) {
             told[reading] += 1;
         }
-        for found in [original::answer(&call), plain::answer(&call)] {
+        for (_, found) in compare::both(&call) {
             differences += usize::from(found != answer);
         }
     }

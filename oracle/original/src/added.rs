@@ -1,4 +1,4 @@
-//! What document 01 adds to the original, decided here and nowhere else.
+//! What documents 01 and 02 add to the original, decided here and nowhere else.
 //!
 //! - 20, the form of a sheet: the original's types hold no such sheet.
 //! - 21 for over two mapping answers or one of an unknown kind: the original is sent an unknown kind of event.
@@ -6,10 +6,11 @@
 //! - Ceilings as arguments: the original is sent a value that breaks the same rule.
 //! - A retry with a delay above 2^63 - 1, which no policy of the original holds: 27.
 //! - Signal endings and the count of microsteps, from the trace and the stores.
+//! - What is left over where a run ends: the original leaves it stored.
 
 use calls::{
-    Call, Ceilings, Ending, Event, Mappings, NodeResult, Output, State, Streak, Workflow, ACTIONS,
-    DECLARED, LIMITS, MOST, NODES, ROUTES, STORE,
+    BufferedSignal, Call, Ceilings, Ending, Event, Mappings, NodeResult, Output, State, Streak,
+    Workflow, ACTIONS, DECLARED, LIMITS, MOST, NODES, ROUTES, STORE,
 };
 use runspore_types::model::code;
 use runspore_types::reducer::Diagnostic;
@@ -357,6 +358,22 @@ impl<'a> Follower<'a> {
             microsteps: self.entries + self.takes,
         }
     }
+}
+
+/// "The call that ends it lists them with ending 5, left over, oldest first, after that call's other endings, and empties
+/// the store." `state` is the record that an accepted call left.
+pub(crate) fn leave_over(call: &Call, state: &mut State, endings: &mut Vec<Ending>) {
+    let is_ended = |state: &State| matches!(state.status, 4 | 5);
+    if !is_ended(state) || call.state.as_ref().is_some_and(is_ended) {
+        return;
+    }
+    let stored = state.signals.iter().take(state.signal_count as usize);
+    endings.extend(stored.map(|signal| Ending {
+        sequence: signal.sequence,
+        ending: 5,
+    }));
+    state.signal_count = 0;
+    state.signals = [BufferedSignal::default(); STORE];
 }
 
 fn named_slot(diagnostic: &Diagnostic) -> usize {

@@ -1,8 +1,8 @@
 //! The original as the oracle: a call of document 01 goes to `transition` of the six unchanged files, and what comes
 //! back is turned into the answer's numbers.
 //!
-//! What 01 adds to the original is decided in `added`, and nothing else is. Names, requests and replies are turned in
-//! `names`, `request` and `read`.
+//! What 01 and 02 add to the original is decided in `added`, and nothing else is. Names, requests and replies are turned
+//! in `names`, `request` and `read`.
 
 mod added;
 mod names;
@@ -176,14 +176,15 @@ fn decoded(decision: &Decision) -> model::State {
 
 fn next(call: &Call, decision: &Decision, script: &Script) -> Answer {
     let decoded = decoded(decision);
-    let (state, slots) = read::state(&decoded);
-    let course = added::course(
+    let (mut state, slots) = read::state(&decoded);
+    let mut course = added::course(
         call,
         &slots,
         &decision.diagnostics,
         &script.trace,
         is_limited(&decoded),
     );
+    added::leave_over(call, &mut state, &mut course.endings);
     Answer::Next {
         state: Box::new(state),
         orders: decision.commands.iter().map(read::order).collect(),

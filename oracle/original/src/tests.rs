@@ -171,6 +171,51 @@ fn stored_signals_end_in_the_order_of_their_takes() {
     assert_eq!(state.signal_count, 3);
 }
 
+/// Endings and microsteps of an accepted call.
+fn endings(call: &Call) -> (Vec<Ending>, u32) {
+    match answer(call) {
+        Answer::Next {
+            endings,
+            microsteps,
+            ..
+        } => (endings, microsteps),
+        other => panic!("{other:?}"),
+    }
+}
+
+#[test]
+fn the_call_that_ends_a_run_empties_its_store() {
+    let mut call = start();
+    for name in [6, 7, 6] {
+        call = then(&call, signal(name, 1));
+    }
+    call = then(&call, result(1, 1));
+    let waiting = next(&call);
+    assert_eq!((waiting.status, waiting.signal_count), (2, 3));
+    let last = then(&call, signal(5, 1));
+    let ending = |sequence, ending| Ending { sequence, ending };
+    let all = vec![ending(6, 1), ending(2, 5), ending(3, 5), ending(4, 5)];
+    assert_eq!(endings(&last), (all, 2));
+    let ended = next(&last);
+    assert_eq!((ended.status, ended.signal_count), (4, 0));
+    assert_eq!(ended.signals, State::fresh(0).signals);
+
+    let mut wanted = last.clone();
+    wanted.mappings.count = 0;
+    assert!(matches!(answer(&wanted), Answer::Wants { state, .. } if state.signal_count == 3));
+    assert_eq!(endings(&then(&last, signal(6, 1))), (vec![ending(7, 4)], 0));
+}
+
+/// The original has no such check: a call on a run that ended before leaves its store as it is.
+#[test]
+fn a_run_that_had_ended_is_left_alone() {
+    let mut call = then(&then(&start(), result(1, 1)), signal(5, 1));
+    call = then(&call, signal(6, 1));
+    let stored = call.state.as_mut().expect("a record");
+    stored.signal_count = 1;
+    assert_eq!(next(&call).signal_count, 1);
+}
+
 #[test]
 fn a_want_holds_the_record_of_its_moment() {
     let mut call = then(&start(), result(1, 1));

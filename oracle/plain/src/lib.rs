@@ -1,5 +1,5 @@
-//! A plain reading of document 01 on structs behind references: no JSON, no heap. The sheet may also be read in place, in
-//! the numbers that a host lends.
+//! A plain reading of documents 01 and 02 on structs behind references: no JSON, no heap. The sheet may also be read in
+//! place, in the numbers that a host lends.
 //!
 //! It is the second reading beside the original and the baseline for speed. It is total: whatever numbers the structs
 //! hold, there is an answer.

@@ -37,6 +37,7 @@ const ROUTED: u32 = 1;
 const UNROUTED: u32 = 2;
 const OVERFLOW: u32 = 3;
 const IGNORED: u32 = 4;
+const LEFT_OVER: u32 = 5;
 
 const INPUT: u32 = 0;
 const PARAMS: u32 = 1;
@@ -90,8 +91,8 @@ impl<'a, S: Sheet> Machine<'a, S> {
         }
     }
 
-    /// The command limit, then the operation limit.
-    pub(super) fn finish(&self) -> Step<()> {
+    /// The command limit, then the operation limit; what an ended run still stores is left over.
+    pub(super) fn finish(&mut self) -> Step<()> {
         let orders = u32::from(self.out.order.is_some());
         if orders > self.limits.commands {
             return Err(refused(29));
@@ -99,7 +100,20 @@ impl<'a, S: Sheet> Machine<'a, S> {
         if self.operations > u64::from(self.limits.operations) {
             return Err(refused(30));
         }
+        if snapshot::is_terminal(&self.out.state) {
+            self.leave_over();
+        }
         Ok(())
+    }
+
+    /// Every stored signal ends, the oldest first, and the store is empty.
+    fn leave_over(&mut self) {
+        let count = self.out.state.signal_count as usize;
+        for i in 0..count {
+            self.end_signal(self.out.state.signals[i].sequence, LEFT_OVER);
+        }
+        self.out.state.signals[..count].fill(BufferedSignal::default());
+        self.out.state.signal_count = 0;
     }
 
     /// The waiter is asked first, so a full store never starves it. Any other signal is stored last, or dropped when

@@ -82,6 +82,9 @@ fn streak_fits(streak: &Streak, node: u32, graph: &Graph<impl Sheet>) -> bool {
 }
 
 fn ended(state: &State) -> bool {
+    if state.signal_count != 0 {
+        return false;
+    }
     if state.position != Position::NONE || state.invocation != InvocationState::NONE {
         return false;
     }

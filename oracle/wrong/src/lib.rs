@@ -1,4 +1,4 @@
-//! Wrong readings of document 01: the plain reading with one error planted in each, to test the generator.
+//! Wrong readings of documents 01 and 02: the plain reading with one error planted in each, to test the generator.
 
 use calls::{Answer, Call};
 

@@ -15,8 +15,13 @@ slots-fit-requires c κs = search needs
 stands-requires : tie.Need-stands-requires
 stands-requires c κs = search needs
 
+leaves-over-requires : tie.Need-leaves-over-requires
+leaves-over-requires c κs = search needs
+
 returns : tie.Need-returns
-returns c = by-parts _ _ (c .before .before .before .counters-fit .ensures) (c .before .before .store-fits .ensures) (c .before .slots-fit .ensures) (c .stands .ensures)
+returns c =
+    by-parts _ _ (c .before .before .before .before .counters-fit .ensures) (c .before .before .before .store-fits .ensures) (c .before .before .slots-fit .ensures) (c .before .stands .ensures)
+    (c .leaves-over .ensures)
 
 pub consistent-spec : {M : Type 1} → statement M
-consistent-spec = tie.close (tie.spec counters-fit-requires store-fits-requires slots-fit-requires stands-requires returns)
+consistent-spec = tie.close (tie.spec counters-fit-requires store-fits-requires slots-fit-requires stands-requires leaves-over-requires returns)

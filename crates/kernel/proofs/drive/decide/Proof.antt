@@ -1,10 +1,48 @@
-use Rattle.kernel.specs.DriveLaws.{decide}
 use borrow.Author.Needs.{needs}
+use mathlib.Core.Path.{sym, _∙_}
+use Rattle.laws.specs.Arrays.{length-field}
+use Rattle.laws.specs.Bool.{if_then_else_}
+use Rattle.model.specs.StoreLaws.{Is-slotted, stored-length}
+use Rattle.kernel.specs.DriveLaws.{decide, all-left}
 use Rattle.kernel.proofs.drive.decide.Statement.{statement}
 use Rattle.kernel.proofs.drive.decide.Tie as tie
 
 enum-known-answer : tie.Need-enum-known-answer
 enum-known-answer c = search needs
+
+leaves-over-requires : tie.Need-leaves-over-requires
+leaves-over-requires c κs = search needs
+
+left-over-requires : tie.Need-left-over-requires
+left-over-requires c κs = search needs
+
+list-behind-requires : tie.Need-list-behind-requires
+list-behind-requires c κs = search needs
+
+add-t18 : tie.Need-add-t18
+add-t18 c = search needs
+
+emptied-requires : tie.Need-emptied-requires
+emptied-requires c κs = search needs
+
+-- The array of signals has its slots, and the count is within them.
+slotted : (c : tie.Start) → Is-slotted (c .args .state)
+slotted c = record { long = search (needs, length-field); room = c .pre .1 }
+
+returns : tie.Need-returns
+unfolding decide if_then_else_
+returns c =
+    let l = c .before .before .before .before .before in
+    let start = l .before .before .before .before in
+    let z = slotted start in
+    simp (
+      l .before .before .answer .given .1,
+      sym (l .leaves-over .ensures) ∙ c .before .before .before .before .if1 .taken,
+      c .before .before .list-behind .ensures,
+      all-left (start .args .state) z (c .before .before .before .left-over .ensures),
+      stored-length (start .args .state) z,
+      c .emptied .ensures,
+    )
 
 enum-known-answer-2 : tie.Need-enum-known-answer-2
 enum-known-answer-2 c = search needs
@@ -18,29 +56,33 @@ enum-known-answer-3 c = search needs
 refusal-requires : tie.Need-refusal-requires
 refusal-requires c κs = search needs
 
-returns : tie.Need-returns
-unfolding decide
-returns c = simp (c .before .answer .given .1)
-
 returns-2 : tie.Need-returns-2
-unfolding decide
-returns-2 c =
-    simp (c .before .before .answer2 .given .1, ← c .want .ensures)
+unfolding decide if_then_else_
+returns-2 c = simp (c .before .before .before .answer .given .1, sym (c .before .leaves-over .ensures) ∙ c .if1 .left)
 
 returns-3 : tie.Need-returns-3
 unfolding decide
-returns-3 c =
-    simp (c .before .before .answer3 .given .1, ← c .refusal .ensures)
+returns-3 c = simp (c .before .before .answer2 .given .1, ← c .want .ensures)
+
+returns-4 : tie.Need-returns-4
+unfolding decide
+returns-4 c = simp (c .before .before .answer3 .given .1, ← c .refusal .ensures)
 
 pub decide-spec : {M : Type 1} → statement M
 decide-spec =
     tie.close
     (tie.spec
     enum-known-answer
+    leaves-over-requires
+    left-over-requires
+    list-behind-requires
+    add-t18
+    emptied-requires
+    returns
     enum-known-answer-2
     want-requires
     enum-known-answer-3
     refusal-requires
-    returns
     returns-2
-    returns-3)
+    returns-3
+    returns-4)

@@ -6,7 +6,7 @@ use mathlib.Core.Bool.{false}
 use mathlib.Core.Logic.{⊎-elim}
 use Rattle.workflow.specs.View.{workflow}
 use Rattle.model.specs.Step.{arrival}
-use Rattle.kernel.specs.DriveLaws.{Driving, Listed, left-of, round-of, is-over, driving-first, adding-note, adding-ending, added-room, added-one, added-none, listed, driving-next, left-less, driving-ends}
+use Rattle.kernel.specs.DriveLaws.{Driving, Listed, left-of, round-of, is-over, driving-first, adding-note, adding-ending, added-room, added-one, added-none, listed, driving-next, left-less, few-left, driving-ends}
 use Rattle.kernel.proofs.drive.run.Statement.{statement}
 use Rattle.kernel.proofs.drive.run.Tie as tie
 
@@ -114,7 +114,9 @@ answer-of-requires : tie.Need-answer-of-requires Inv-loop μ-loop
 answer-of-requires c κs = search needs
 
 decide-requires : tie.Need-decide-requires Inv-loop μ-loop
-decide-requires c κs = search needs
+decide-requires c κs =
+    let d = says (c .before .before .before) in
+    (few-left _ _ _ _ _ d, d .going .bounds .room)
 
 returns-2 : tie.Need-returns-2 Inv-loop μ-loop
 returns-2 c =

@@ -1,5 +1,6 @@
 use native.Mathlib.Omega.{arith}
-use Rattle.kernel.specs.DriveLaws.{takes-small, entries-small, round-of}
+use Rattle.kernel.specs.Cost.{takes-small}
+use Rattle.kernel.specs.DriveLaws.{entries-small, round-of}
 use borrow.Author.Needs.{needs}
 use Rattle.kernel.proofs.drive.take_and_enter.Statement.{statement}
 use Rattle.kernel.proofs.drive.take_and_enter.Tie as tie

@@ -1,5 +1,5 @@
 use Rattle.laws.specs.Bool.{if_then_else_}
-use Rattle.kernel.specs.DriveLaws.{takes}
+use Rattle.kernel.specs.Cost.{takes}
 use borrow.Author.Tests.{eq-eqb, ne-eqb}
 use Rattle.kernel.proofs.drive.takes.Statement.{statement}
 use Rattle.kernel.proofs.drive.takes.Tie as tie
