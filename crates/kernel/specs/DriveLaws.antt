@@ -103,11 +103,9 @@ answer-of Consume o l k n = rest-answer Order.Nothing l k n
 answer-of (Wants t i b) o l k n = code.Answer.Wants t i b
 answer-of (Refuse r) o l k n = code.Answer.Refused r none
 
--- A run that has ended leaves over what is still stored.
-unfoldable pub decide : List Note → List Ending → (note-count ending-count : ℕ) → State → code.Answer → Decision
-decide ns es n k s (code.Answer.Next o j) =
-    if leaves-over (s .status) (s .«signal_count»)
-    then
+-- The close: what is still stored is left over, behind the other endings, and the store is empty.
+abbrev pub closing : List Note → List Ending → (note-count ending-count : ℕ) → State → Order → (microsteps : ℕ) → Decision
+closing ns es n k s o j =
     record {
       notes = ns;
       endings = splice es k (left-over (stored s));
@@ -116,6 +114,11 @@ decide ns es n k s (code.Answer.Next o j) =
       answer = code.Answer.Next o j;
       state = emptied s;
     }
+
+unfoldable pub decide : List Note → List Ending → (note-count ending-count : ℕ) → State → code.Answer → Decision
+decide ns es n k s (code.Answer.Next o j) =
+    if leaves-over (s .status) (s .«signal_count»)
+    then closing ns es n k s o j
     else record { notes = ns; endings = es; «note_count» = n; «ending_count» = k; answer = code.Answer.Next o j; state = s }
 decide ns es n k s (code.Answer.Wants t i b) = decision-of (wants t i b s)
 decide ns es n k s (code.Answer.Refused r i) = decision-of (call.refused r i)

@@ -27,7 +27,7 @@ ghost use Rattle.kernel.specs.Drive.{operations-of, driven};
 ghost use Rattle.kernel.specs.Cost.{takes};
 ghost use Rattle.kernel.specs.Call.{wants, refused, orders, finish};
 ghost use Rattle.kernel.specs.Decision.{decision-of};
-ghost use Rattle.kernel.specs.DriveLaws.{entries, round-of, is-over, decide, rest-answer, answer-of, at-end, Begins};
+ghost use Rattle.kernel.specs.DriveLaws.{entries, round-of, is-over, closing, decide, rest-answer, answer-of, at-end, Begins};
 
 // What a signal that is taken and the entry that follows make of a call: the record and what comes next, what was said, and how
 // many microsteps these were.
@@ -229,7 +229,33 @@ fn list_behind(
     endings
 }
 
-// What an answer hands back: a want has no notes and no endings, a refusal no record besides. A run that has ended leaves over what is still stored.
+// The close: what is still stored is left over, behind the other endings, and the store is empty.
+fn close(
+    notes: [Note; code::LIST],
+    endings: [Ending; code::LIST],
+    note_count: u32,
+    ending_count: u32,
+    order: Order,
+    microsteps: u32,
+    state: State,
+) -> Decision
+    requires { ⌜ «ending_count» + state .«signal_count» ≤ 65 ⌝ }
+    requires { ⌜ state .«signal_count» ≤ 64 ⌝ }
+    ensures { λ r. ⌜ r ≡ closing notes endings «note_count» «ending_count» state order microsteps ⌝ }
+{
+    let left = state.left_over();
+    let listed = list_behind(endings, ending_count, left, state.signal_count);
+    Decision {
+        notes,
+        endings: listed,
+        note_count,
+        ending_count: ending_count + state.signal_count,
+        answer: Answer::Next { order, microsteps },
+        state: state.emptied(),
+    }
+}
+
+// What an answer hands back: a want has no notes and no endings, a refusal no record besides; an accepted one is closed where signals are left over.
 fn decide(
     notes: [Note; code::LIST],
     endings: [Ending; code::LIST],
@@ -245,16 +271,15 @@ fn decide(
     match answer {
         Answer::Next { order, microsteps } => {
             if leaves_over(state.status, state.signal_count) {
-                let left = state.left_over();
-                let listed = list_behind(endings, ending_count, left, state.signal_count);
-                return Decision {
+                return close(
                     notes,
-                    endings: listed,
+                    endings,
                     note_count,
-                    ending_count: ending_count + state.signal_count,
-                    answer: Answer::Next { order, microsteps },
-                    state: state.emptied(),
-                };
+                    ending_count,
+                    order,
+                    microsteps,
+                    state,
+                );
             }
             Decision {
                 notes,

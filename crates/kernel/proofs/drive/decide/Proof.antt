@@ -1,9 +1,7 @@
 use borrow.Author.Needs.{needs}
 use mathlib.Core.Path.{sym, _∙_}
-use Rattle.laws.specs.Arrays.{length-field}
 use Rattle.laws.specs.Bool.{if_then_else_}
-use Rattle.model.specs.StoreLaws.{Is-slotted, stored-length}
-use Rattle.kernel.specs.DriveLaws.{decide, all-left}
+use Rattle.kernel.specs.DriveLaws.{decide}
 use Rattle.kernel.proofs.drive.decide.Statement.{statement}
 use Rattle.kernel.proofs.drive.decide.Tie as tie
 
@@ -13,36 +11,12 @@ enum-known-answer c = search needs
 leaves-over-requires : tie.Need-leaves-over-requires
 leaves-over-requires c κs = search needs
 
-left-over-requires : tie.Need-left-over-requires
-left-over-requires c κs = search needs
-
-list-behind-requires : tie.Need-list-behind-requires
-list-behind-requires c κs = search needs
-
-add-t18 : tie.Need-add-t18
-add-t18 c = search needs
-
-emptied-requires : tie.Need-emptied-requires
-emptied-requires c κs = search needs
-
--- The array of signals has its slots, and the count is within them.
-slotted : (c : tie.Start) → Is-slotted (c .args .state)
-slotted c = record { long = search (needs, length-field); room = c .pre .1 }
+close-requires : tie.Need-close-requires
+close-requires c κs = search needs
 
 returns : tie.Need-returns
 unfolding decide if_then_else_
-returns c =
-    let l = c .before .before .before .before .before in
-    let start = l .before .before .before .before in
-    let z = slotted start in
-    simp (
-      l .before .before .answer .given .1,
-      sym (l .leaves-over .ensures) ∙ c .before .before .before .before .if1 .taken,
-      c .before .before .list-behind .ensures,
-      all-left (start .args .state) z (c .before .before .before .left-over .ensures),
-      stored-length (start .args .state) z,
-      c .emptied .ensures,
-    )
+returns c = simp (c .before .before .before .before .answer .given .1, sym (c .before .before .leaves-over .ensures) ∙ c .before .if1 .taken, c .close .ensures)
 
 enum-known-answer-2 : tie.Need-enum-known-answer-2
 enum-known-answer-2 c = search needs
@@ -74,10 +48,7 @@ decide-spec =
     (tie.spec
     enum-known-answer
     leaves-over-requires
-    left-over-requires
-    list-behind-requires
-    add-t18
-    emptied-requires
+    close-requires
     returns
     enum-known-answer-2
     want-requires
