@@ -293,16 +293,20 @@ pub fn cases() -> Vec<Case> {
     cases
 }
 
-pub fn twelve() -> Vec<Case> {
-    let sheet = sheet();
-    let mut cases = Vec::new();
-    let mut add = |name, call: Call, expected| {
+fn adding(cases: &mut Vec<Case>) -> impl FnMut(&'static str, Call, Answer) + '_ {
+    |name, call, expected| {
         cases.push(Case {
             name,
             call,
             expected,
         })
-    };
+    }
+}
+
+pub fn twelve() -> Vec<Case> {
+    let sheet = sheet();
+    let mut cases = Vec::new();
+    let mut add = adding(&mut cases);
 
     let first = scheduled();
     add(
@@ -484,6 +488,7 @@ pub fn twelve() -> Vec<Case> {
             0,
         ),
     );
+    drop(add);
     cases
 }
 
@@ -491,13 +496,7 @@ pub fn twelve() -> Vec<Case> {
 pub fn left_over() -> Vec<Case> {
     let sheet = sheet();
     let mut cases = Vec::new();
-    let mut add = |name, call: Call, expected| {
-        cases.push(Case {
-            name,
-            call,
-            expected,
-        })
-    };
+    let mut add = adding(&mut cases);
 
     let mut two = waiting();
     store(&mut two, 6, NONE);
@@ -585,5 +584,6 @@ pub fn left_over() -> Vec<Case> {
         call(&sheet, Some(&stored), start()),
         refused(24, NONE),
     );
+    drop(add);
     cases
 }
