@@ -1,13 +1,12 @@
 -- What the close keeps: a run that has ended leaves over what is still stored, and all else stays.
-use mathlib.Core.Path.{_≡_, refl, sym, _∙_, ap}
+use mathlib.Core.Path.{_≡_, refl, _∙_, ap}
 use mathlib.Core.Bool.{Bool, true, false}
 use mathlib.Core.List.{List, [], _∷_, _++_}
-use Prim.Native.Nat.{ℕ, zero, suc, _+_, _≤_}
+use Prim.Native.Nat.{ℕ, _+_, _≤_}
 use native.Mathlib.Omega.{arith}
 use lib.ListN.{length, length-append, length-take}
-use lib.Dec.{ltb}
 use borrow.Author.Tests.{ltb-false, not-true}
-use Rattle.laws.specs.Bool.{if_then_else_, _and_, both, either, if-false}
+use Rattle.laws.specs.Bool.{_and_, both, either, if-false}
 use Rattle.laws.specs.Every.{every}
 use Rattle.workflow.specs.View.{Workflow}
 use Rattle.model.specs.declared.BufferedSignal.{BufferedSignal}

@@ -41,7 +41,7 @@ use Rattle.model.specs.StoreLaws.{Is-slotted, at-taken, stored-length, length-l
 use Rattle.model.specs.Step.{still, no-note, no-ending, no-mapping, arrival, enter, follow-to, route-limited, route, take-by, take as take-signal}
 use Rattle.model.specs.EnterLaws.{entering}
 use Rattle.model.specs.RouteLaws.{consumed, taking}
-use Rattle.kernel.specs.Cost.{cost, takes, takes-small, entered}
+use Rattle.kernel.specs.Cost.{cost, takes, entered}
 use Rattle.kernel.specs.Code.{microsteps-exceeded, commands-exceeded, operations-exceeded}
 use Rattle.machine.specs.Events.{apply}
 use Rattle.kernel.specs.Drive.{Machine, operations-of, added, moved, over-limit, counting, consume-by, advance-by, advance, moves-on, is-moving, driven}
