@@ -1,4 +1,6 @@
 // The boundary for hosts in bytes (docs/BYTES.md): sheets, runs and events written and read, and the call.
+#![tactic(auto)]
+
 mod answer;
 mod call;
 mod event;

@@ -1,4 +1,6 @@
 // Numbers as bytes: unsigned LEB128 in its shortest form (docs/BYTES.md).
+#![tactic(auto)]
+
 pub mod columns;
 pub mod number;
 pub mod numbers;

@@ -7,7 +7,7 @@ ghost use Rattle.codec.specs.Stored.{number_of, behind};
 ghost use Rattle.codec.specs.Groups.{followed};
 
 // A number and the place behind it; or the bytes there are bad.
-#[derive(Drop)]
+#[derive(Clone, Copy)]
 pub enum Number {
     Value { value: u64, next: usize },
     Bad,
@@ -122,7 +122,7 @@ fn behind(number: Number, at: usize) -> usize
 }
 
 // A reader that stands on lent bytes and moves along them.
-#[derive(Drop)]
+#[derive(Clone, Copy)]
 pub struct Reader<'a> {
     pub bytes: &'a [u8],
     pub at: usize,

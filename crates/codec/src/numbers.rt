@@ -8,7 +8,7 @@ ghost use Rattle.codec.specs.Stored.{place_of, Stored};
 use crate::number::{Number, field, number_size, write_number};
 
 // The place behind what was read; or the bytes are bad.
-#[derive(Drop)]
+#[derive(Clone, Copy)]
 pub enum Place {
     At(usize),
     Bad,

@@ -103,7 +103,7 @@ pub fn ascends(a: u32, b: u32, x: u32, y: u32) -> bool
 }
 
 // The sorts of rows.
-#[derive(Drop)]
+#[derive(Clone, Copy)]
 enum Sort {
     Nodes,
     Actions,

@@ -1,4 +1,6 @@
 // The verdict on a sheet: the first broken rule with its item.
+#![tactic(auto)]
+
 mod form;
 mod reach;
 mod rules;
@@ -15,7 +17,7 @@ use workflow::layout::NUMBERS;
 use workflow::{Found, code};
 
 // The largest numbers that a sheet may ask for.
-#[derive(Drop)]
+#[derive(Clone, Copy)]
 pub struct Ceilings {
     pub nodes: u32,
     pub visits: u32,
@@ -24,7 +26,7 @@ pub struct Ceilings {
 }
 
 // The first broken rule with its item, or none.
-#[derive(Drop)]
+#[derive(Clone, Copy)]
 pub enum Verdict {
     Fine,
     Broken { rule: u32, item: u32 },

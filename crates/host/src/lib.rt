@@ -1,4 +1,6 @@
 // The boundary for hosts: a call, a run record and an answer as plain numbers (docs/NUMBERS.md).
+#![tactic(auto)]
+
 pub mod layout;
 pub mod read;
 pub mod write;

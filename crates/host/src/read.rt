@@ -186,7 +186,7 @@ fn results(xs: &[u64], rows: usize) -> [NodeResult; layout::NODES]
 
 // How many rows are read.
 
-#[derive(Drop)]
+#[derive(Clone, Copy)]
 pub struct Used {
     pub signals: usize,
     pub nodes: usize,

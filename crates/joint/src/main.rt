@@ -1,5 +1,7 @@
 // Walks Joint A from its start to an end, once until its loop is exhausted and once until the weld is accepted, and prints
 // for each call what the tablet shows next: where the run stands, its order, its notes and endings.
+#![tactic(auto)]
+
 use graph::Ceilings;
 use kernel::{Call, Decision, Limits};
 use model::answer::{Answer, Ending, Note, Order};
@@ -17,7 +19,7 @@ fn number(n: u32) {
 }
 
 // The run so far: its record, if there is one.
-#[derive(Drop)]
+#[derive(Clone, Copy)]
 pub struct Run {
     pub state: State,
     pub calls: u64,

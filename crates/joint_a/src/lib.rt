@@ -1,4 +1,6 @@
 // The sheet of Joint A (document 01) as numbers.
+#![tactic(auto)]
+
 ghost use Rattle.std.specs.Prelude.{◌≡◌};
 ghost use Rattle.joint_a.specs.Sheet.{numbers};
 

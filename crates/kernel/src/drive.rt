@@ -20,7 +20,7 @@ use workflow::layout::NUMBERS;
 
 // What a signal that is taken and the entry that follows make of a call: the record and what comes next, what was said, and how
 // many microsteps these were.
-#[derive(Drop)]
+#[derive(Clone, Copy)]
 struct Round {
     state: State,
     next: Next,

@@ -1,4 +1,6 @@
 // A call. The definition is in specs/.
+#![tactic(auto)]
+
 pub mod code;
 mod drive;
 
@@ -14,7 +16,7 @@ use model::{State, code as record};
 use workflow::layout::NUMBERS;
 
 // The most that a call may count.
-#[derive(Drop)]
+#[derive(Clone, Copy)]
 pub struct Limits {
     pub microsteps: u32,
     pub commands: u32,
@@ -22,7 +24,7 @@ pub struct Limits {
 }
 
 // What a call carries beside the sheet and the record.
-#[derive(Drop)]
+#[derive(Clone, Copy)]
 pub struct Call {
     pub ceilings: Ceilings,
     pub limits: Limits,
@@ -31,7 +33,7 @@ pub struct Call {
 }
 
 // An answer with its lists and its record. A want has neither list; a refusal has the fresh record, which tells nothing.
-#[derive(Drop)]
+#[derive(Clone, Copy)]
 pub struct Decision {
     pub notes: [Note; code::LIST],
     pub endings: [Ending; code::LIST],

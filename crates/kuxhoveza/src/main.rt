@@ -1,4 +1,6 @@
 // One call from standard input, in bytes; its answer on standard output, an item a line (docs/BYTES.md).
+#![tactic(auto)]
+
 ghost use Rattle.std.specs.Prelude.{◌≤◌};
 
 use host::layout;

@@ -1,1 +1,3 @@
 // Laws that every other crate cites; the laws are in specs/. No code.
+#![tactic(auto)]
+

@@ -1,4 +1,6 @@
 // What an event does to a run: the rest of the moves of machine.rs, over those that the run record has itself (enter, route, take, retry).
+#![tactic(auto)]
+
 pub mod events;
 pub mod invocation;
 pub mod reaction;

@@ -3,7 +3,7 @@ use model::answer::{Ending, Note};
 use model::moves::Next;
 use model::{ErrorInfo, Kept, Output};
 
-#[derive(Drop)]
+#[derive(Clone, Copy)]
 pub enum Reaction {
     // nothing changes, and this comes next
     Pass(Next),

@@ -2,13 +2,13 @@
 ghost use Rattle.std.specs.Prelude.{◌≡◌};
 ghost use Rattle.model.specs.Answers.{params_numbers, order_numbers, answer_numbers};
 
-#[derive(Drop)]
+#[derive(Clone, Copy)]
 pub enum Params {
     Nothing,
     Handle(u32),
 }
 
-#[derive(Drop)]
+#[derive(Clone, Copy)]
 pub struct ScheduleActivity {
     pub not_before: u64,
     pub node: u32,
@@ -19,7 +19,7 @@ pub struct ScheduleActivity {
     pub params: Params,
 }
 
-#[derive(Drop)]
+#[derive(Clone, Copy)]
 pub struct RetryActivity {
     pub not_before: u64,
     pub node: u32,
@@ -28,14 +28,14 @@ pub struct RetryActivity {
 }
 
 // The command of a call, if there is one.
-#[derive(Drop)]
+#[derive(Clone, Copy)]
 pub enum Order {
     Nothing,
     Schedule(ScheduleActivity),
     Retry(RetryActivity),
 }
 
-#[derive(Drop)]
+#[derive(Clone, Copy)]
 pub struct Note {
     pub code: u32,
     pub node: u32,
@@ -45,14 +45,14 @@ pub struct Note {
 }
 
 // How a signal, known by its sequence number, ended: 1 routed, 2 unrouted, 3 overflow, 4 ignored, 5 left over.
-#[derive(Drop)]
+#[derive(Clone, Copy)]
 pub struct Ending {
     pub sequence: u64,
     pub ending: u32,
 }
 
 // One of three: a next record with its order and microsteps; a want of one mapping value; a refusal.
-#[derive(Drop)]
+#[derive(Clone, Copy)]
 pub enum Answer {
     Next { order: Order, microsteps: u32 },
     Wants { node: u32, field: u32, from: u32 },

@@ -62,7 +62,7 @@ impl Evaluated {
 }
 
 // What entering a node makes of a run: what is stored where a flag says so, and what the move says.
-#[derive(Drop)]
+#[derive(Clone, Copy)]
 struct Entry {
     // the node is entered: one more visit and one more activation
     entered: bool,

@@ -1,7 +1,7 @@
 // What a call carries beside the sheet and the record.
 
 // One event. Fields that its kind doesn't read are ignored.
-#[derive(Drop)]
+#[derive(Clone, Copy)]
 pub struct Event {
     pub sequence: u64,
     pub accepted_at: u64,
@@ -28,7 +28,7 @@ pub struct Event {
 }
 
 // One mapping answer: 1 a value, 2 a fault, 3 unencodable.
-#[derive(Drop)]
+#[derive(Clone, Copy)]
 pub struct Mapping {
     pub kind: u32,
     pub value: u32,
@@ -38,14 +38,14 @@ pub struct Mapping {
 }
 
 // The mapping answers of a call; those at or past the count are ignored.
-#[derive(Drop)]
+#[derive(Clone, Copy)]
 pub struct Mappings {
     pub answers: [Mapping; 2],
     pub count: u32,
 }
 
 // A mapping value as a node finds it.
-#[derive(Drop)]
+#[derive(Clone, Copy)]
 pub enum Evaluated {
     Value(u32),
     Fault { code: u32, detail: u32 },

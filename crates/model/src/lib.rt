@@ -1,4 +1,6 @@
 // The types of document 01 in the names of model.rs: the run record (`State`) with its accessors, events and answers.
+#![tactic(auto)]
+
 pub mod answer;
 pub mod code;
 pub mod enter;
@@ -17,7 +19,7 @@ ghost use Rattle.model.specs.Step.{position};
 use workflow::code as sheet;
 use workflow::layout::NODES;
 
-#[derive(Drop)]
+#[derive(Clone, Copy)]
 pub struct ErrorInfo {
     pub code: u32,
     pub node: u32,
@@ -25,19 +27,19 @@ pub struct ErrorInfo {
 }
 
 // What a node or a run yielded: a handle or an error, or nothing so far.
-#[derive(Drop)]
+#[derive(Clone, Copy)]
 pub enum Output {
     Nothing,
     Handle(u32),
     Error(ErrorInfo),
 }
 
-#[derive(Drop)]
+#[derive(Clone, Copy)]
 pub struct RunResult {
     pub output: Output,
 }
 
-#[derive(Drop)]
+#[derive(Clone, Copy)]
 pub struct BufferedSignal {
     pub sequence: u64,
     pub event_id: u32,
@@ -47,20 +49,20 @@ pub struct BufferedSignal {
 }
 
 // How often a node was entered.
-#[derive(Drop)]
+#[derive(Clone, Copy)]
 pub struct Visits {
     pub count: u32,
 }
 
 // How often in a row a node routed a limited outcome; count 0 for none.
-#[derive(Drop)]
+#[derive(Clone, Copy)]
 pub struct Streak {
     pub outcome: u32,
     pub count: u32,
 }
 
 // A node's latest result; its output is `Nothing` where it has none.
-#[derive(Drop)]
+#[derive(Clone, Copy)]
 pub struct NodeResult {
     pub visit: u32,
     pub outcome: u32,
@@ -68,21 +70,21 @@ pub struct NodeResult {
 }
 
 // The node where the run stands; 255 and 0 for none.
-#[derive(Drop)]
+#[derive(Clone, Copy)]
 pub struct Position {
     pub node: u32,
     pub visit: u32,
 }
 
 // The error that a stuck invocation keeps.
-#[derive(Drop)]
+#[derive(Clone, Copy)]
 pub enum Kept {
     Nothing,
     Error(ErrorInfo),
 }
 
 // The outstanding invocation; phase 0, node 255 and zeros for none.
-#[derive(Drop)]
+#[derive(Clone, Copy)]
 pub struct InvocationState {
     pub phase: u32,
     pub node: u32,
@@ -95,7 +97,7 @@ pub struct InvocationState {
 }
 
 // The run record. Signals are stored oldest first; visits, streaks and results are by node.
-#[derive(Drop)]
+#[derive(Clone, Copy)]
 pub struct State {
     pub signals: [BufferedSignal; code::STORE],
     pub visits: [Visits; NODES],

@@ -6,7 +6,7 @@ use crate::State;
 use crate::answer::{Ending, Note, Order};
 
 // What comes after a move.
-#[derive(Drop)]
+#[derive(Clone, Copy)]
 pub enum Next {
     // nothing: the moves of this call are over
     Rest,
@@ -24,7 +24,7 @@ pub enum Next {
 
 // The next record and what comes after, with at most one note (code 0: none), one ending (ending 0: none) and one order,
 // and how many mapping answers were read.
-#[derive(Drop)]
+#[derive(Clone, Copy)]
 pub struct Move {
     pub state: State,
     pub next: Next,

@@ -22,7 +22,7 @@ fn is_late(w: &[u32; NUMBERS], last_accepted_at: u64, delay: u64) -> bool
 }
 
 // What the next attempt makes of a run, if one can be ordered.
-#[derive(Drop)]
+#[derive(Clone, Copy)]
 struct Attempt {
     ordered: bool,
     invocation: InvocationState,

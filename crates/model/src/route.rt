@@ -17,7 +17,7 @@ use workflow::{Found, code as sheet};
 const LAST: usize = code::STORE - 1;
 
 // Which outcome a node follows, with its next streak and the note that goes with it.
-#[derive(Drop)]
+#[derive(Clone, Copy)]
 struct Routing {
     streak: Streak,
     outcome: u32,
@@ -119,7 +119,7 @@ fn signal_route(w: &[u32; NUMBERS], node: u32, outcome: u32) -> Found
 }
 
 // What routing makes of a run: the result and the streak that are stored at its node, if they are, and what is said.
-#[derive(Drop)]
+#[derive(Clone, Copy)]
 struct Routed {
     stored: bool,
     result: NodeResult,

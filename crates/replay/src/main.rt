@@ -1,10 +1,12 @@
 // Replays the recorded answers of the original (its stdin: oracle/sample/README.md, docs/NUMBERS.md): each call goes
 // through the boundary, and all the numbers of its answer are compared with the recorded ones.
+#![tactic(auto)]
+
 
 mod coded;
 
 // What the reader of the lines is at: the number it is in, and the place in the array that it reads.
-#[derive(Drop)]
+#[derive(Clone, Copy)]
 pub struct Reader {
     pub number: u64,
     pub inside: bool,

@@ -1,4 +1,6 @@
 // The run check (`consistent` and `owned_by` of snapshot.rs, and what document 01 adds) and the event check.
+#![tactic(auto)]
+
 ghost use Rattle.std.specs.Prelude.{◌≡◌};
 ghost use Rattle.workflow.specs.View.{workflow};
 ghost use Rattle.snapshot.specs.Check.{result_unused, result_zero, result_fits, streak_fits, slots_fit, counters_fit, keeps_error, is_no_invocation, result_of_status, owned_by, phase_fits, stands, consistent};

@@ -1,4 +1,6 @@
 // Works the list of standard waits out and prints a line for each entry: its number and its wait.
+#![tactic(auto)]
+
 ghost use Rattle.std.specs.Prelude.{◌≡◌, ◌^◌, ◌<◌};
 ghost use Rattle.waits.specs.Waits.{step, waits};
 

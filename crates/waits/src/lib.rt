@@ -1,4 +1,6 @@
 // The standard waits as a table, and the wait after an attempt.
+#![tactic(auto)]
+
 ghost use Rattle.std.specs.Prelude.{◌≡◌};
 ghost use Rattle.waits.specs.Waits.{entry, wait};
 

@@ -1,4 +1,6 @@
 // The sheet (`Workflow`), lent as one array of numbers with a column for each field of its rows, and the lookups in it.
+#![tactic(auto)]
+
 pub mod code;
 pub mod layout;
 
@@ -10,7 +12,7 @@ ghost use Rattle.workflow.specs.RowLaws.{Columns, find_row};
 
 use crate::layout::NUMBERS;
 
-#[derive(Drop)]
+#[derive(Clone, Copy)]
 pub struct Node {
     pub kind: u32,
     pub action: u32,
@@ -21,34 +23,34 @@ pub struct Node {
     pub has_limits: u32,
 }
 
-#[derive(Drop)]
+#[derive(Clone, Copy)]
 pub struct Route {
     pub node: u32,
     pub outcome: u32,
     pub target: u32,
 }
 
-#[derive(Drop)]
+#[derive(Clone, Copy)]
 pub struct Limit {
     pub node: u32,
     pub outcome: u32,
     pub limit: u32,
 }
 
-#[derive(Drop)]
+#[derive(Clone, Copy)]
 pub struct Action {
     pub effect: u32,
     pub max_attempts: u32,
 }
 
-#[derive(Drop)]
+#[derive(Clone, Copy)]
 pub struct Declared {
     pub action: u32,
     pub outcome: u32,
 }
 
 // What a lookup finds.
-#[derive(Drop)]
+#[derive(Clone, Copy)]
 pub enum Found {
     At(u32),
     Nothing,

@@ -1,0 +1,13 @@
+# [ read_as = "a8254672b82d2cc112672c6e0fcdd8127c9cb4030869919e6fcb52f0a27d4509" ] pub const NONE : u32 = 255 ;
+# [ read_as = "30f879c84240e1b0b3b48d2daac3f72b408a696a9f741135c7dbe612b93eae19" ] pub const FORMAT_0_1 : u32 = 1 ;
+# [ read_as = "f6361547982c76177b27fe8888b57a20dad804ac6fcaca9eb862e87cc1e3fb0e" ] pub const FORMAT_0_2 : u32 = 2 ;
+# [ read_as = "7a8df771413a70c41d22a0cf2536aa8a7d84cb8ba466b78a059977b02f9a687a" ] pub const OK : u32 = 0 ;
+# [ read_as = "30f879c84240e1b0b3b48d2daac3f72b408a696a9f741135c7dbe612b93eae19" ] pub const RECEIVED : u32 = 1 ;
+# [ read_as = "f6361547982c76177b27fe8888b57a20dad804ac6fcaca9eb862e87cc1e3fb0e" ] pub const FAILED : u32 = 2 ;
+# [ read_as = "dddfd7c2bb7bf1e0bf1f500365e76cead57c1850845a4b7ed7b683ce29cda5dd" ] pub const EXHAUSTED : u32 = 3 ;
+# [ read_as = "30f879c84240e1b0b3b48d2daac3f72b408a696a9f741135c7dbe612b93eae19" ] pub const ACTIVITY : u32 = 1 ;
+# [ read_as = "f6361547982c76177b27fe8888b57a20dad804ac6fcaca9eb862e87cc1e3fb0e" ] pub const AWAIT_SIGNAL : u32 = 2 ;
+# [ read_as = "dddfd7c2bb7bf1e0bf1f500365e76cead57c1850845a4b7ed7b683ce29cda5dd" ] pub const COMPLETE : u32 = 3 ;
+# [ read_as = "08fb86774efd8ff5e76a07ed81515dbd62af60b42d1ae5b6fef79e5b913661ef" ] pub const FAIL : u32 = 4 ;
+# [ read_as = "7a8df771413a70c41d22a0cf2536aa8a7d84cb8ba466b78a059977b02f9a687a" ] pub const REPEATABLE : u32 = 0 ;
+# [ read_as = "f6361547982c76177b27fe8888b57a20dad804ac6fcaca9eb862e87cc1e3fb0e" ] pub const RECONCILABLE : u32 = 2 ;

@@ -1,0 +1,8 @@
+-- definitions
+pub mod Code
+pub mod Layout
+pub mod View
+pub mod Lookup
+-- laws
+pub mod RowLaws
+pub mod Sound
