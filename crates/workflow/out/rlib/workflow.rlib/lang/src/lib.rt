@@ -6,12 +6,12 @@ ghost use Rattle.workflow.specs.View.{workflow, no_node, node_at, route_at, limi
 ghost use Rattle.workflow.specs.Lookup.{found, is_0_2, node_of, policy_of, are, route_of, limit_of, declares};
 ghost use Rattle.workflow.specs.RowLaws.{Columns, find_row};
 use crate :: layout :: NUMBERS ;
-# [ derive ( Drop ) ] pub struct Node { pub kind : u32 , pub action : u32 , pub has_params : u32 , pub signal : u32 , pub code : u32 , pub detail : u32 , pub has_limits : u32 , }
-# [ derive ( Drop ) ] pub struct Route { pub node : u32 , pub outcome : u32 , pub target : u32 , }
-# [ derive ( Drop ) ] pub struct Limit { pub node : u32 , pub outcome : u32 , pub limit : u32 , }
-# [ derive ( Drop ) ] pub struct Action { pub effect : u32 , pub max_attempts : u32 , }
-# [ derive ( Drop ) ] pub struct Declared { pub action : u32 , pub outcome : u32 , }
-# [ derive ( Drop ) ] pub enum Found { At ( u32 ) , Nothing , }
+# [ derive ( Clone , Copy ) ] pub struct Node { pub kind : u32 , pub action : u32 , pub has_params : u32 , pub signal : u32 , pub code : u32 , pub detail : u32 , pub has_limits : u32 , }
+# [ derive ( Clone , Copy ) ] pub struct Route { pub node : u32 , pub outcome : u32 , pub target : u32 , }
+# [ derive ( Clone , Copy ) ] pub struct Limit { pub node : u32 , pub outcome : u32 , pub limit : u32 , }
+# [ derive ( Clone , Copy ) ] pub struct Action { pub effect : u32 , pub max_attempts : u32 , }
+# [ derive ( Clone , Copy ) ] pub struct Declared { pub action : u32 , pub outcome : u32 , }
+# [ derive ( Clone , Copy ) ] pub enum Found { At ( u32 ) , Nothing , }
 pub fn capped ( count : u32 , room : usize ) -> usize
     ensures { result ≡ min room count } ;
 pub fn node_at ( w : & [ u32 ; 4169 ] , i : usize ) -> Node
