@@ -6,11 +6,10 @@ use Rattle.laws.specs.Bool.{◌and◌}
 use Rattle.waits.specs.Waits.{step}
 use Rattle.waits.specs.WaitsLaws.{stepped, carried, entry_below}
 use Rattle.waits.proofs.wait_after.Lts as lts
-use Rattle.waits.proofs.wait_after.Tie as tie
 use Rattle.waits.proofs.wait_after.Goals as goal
 
 -- the constant, as the code has it
-abbrev table : tie.After-entry_of → List ℕ
+abbrev table : goal.After-entry_of → List ℕ
 table c = (lts.m2 _ _ _ c.args c.blocks).1.1.0
 
 pub offset_bounds-entry_of : goal.offset_bounds-entry_of

@@ -1,0 +1,14 @@
+use Rattle.model.specs.Answers.{output_numbers}
+use Rattle.model.proofs.Output.numbers.Goals as goal
+
+pub returns-in-Nothing : goal.returns-in-Nothing
+unfolding output_numbers
+returns-in-Nothing c = simp c.in-Nothing.is
+
+pub returns-in-Handle : goal.returns-in-Handle
+unfolding output_numbers
+returns-in-Handle c = simp c.in-Handle.is
+
+pub returns-in-Error : goal.returns-in-Error
+unfolding output_numbers
+returns-in-Error c = simp c.in-Error.is

@@ -1,0 +1,9 @@
+use Rattle.model.specs.EnterLaws.{destination, no_destination}
+use Rattle.model.proofs.enter.destination.Goals as goal
+
+pub returns-in-Enter : goal.returns-in-Enter
+unfolding destination
+returns-in-Enter c = simp c.in-Enter.is
+
+pub returns : goal.returns
+returns c = no_destination c.args.next c.in_default.not-Enter

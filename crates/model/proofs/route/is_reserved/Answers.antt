@@ -1,0 +1,10 @@
+use Rattle.laws.specs.Bool.{◌and◌}
+use Rattle.model.proofs.route.is_reserved.Goals as goal
+
+pub returns-then-is_0_2 : goal.returns-then-is_0_2
+unfolding ◌and◌
+returns-then-is_0_2 c = simp (← c.is_0_2.ensures, c.if-is_0_2.true)
+
+pub returns : goal.returns
+unfolding ◌and◌
+returns c = simp (← c.is_0_2.ensures, c.if-is_0_2.false)
