@@ -37,7 +37,6 @@ use Rattle.model.specs.declared.moves.Move.{Move}
 use Rattle.model.specs.Record.{no_signal, no_invocation, placed, set_signals, no_streak, no_node_result, streak_of, with_streak, with_result}
 use Rattle.model.specs.StoreLaws.{signal_here}
 use Rattle.model.specs.Store.{listed, first_signal, signal_at, removed}
-use Rattle.workflow.specs.declared.Node.{Node}
 use Rattle.model.specs.Step.{planned, phased, retry, signal_outcome, streak_count, no_note, no_ending, still, noting, ending, follow_to, route_limited, route, signal_route, take_by, take}
 
 -- The outcome that is followed, the next streak and the note.
