@@ -6,7 +6,7 @@ use mathlib.Core.List.{List, [], ◌∷◌, ◌++◌, flat_map, append_assoc}
 use native.Mathlib.Omega.{arith}
 use Rattle.std.proofs.Math.ListN.{length, take, drop, length-append, length-drop, take-append-drop}
 use Rattle.std.proofs.Math.Seq.{length-take-le, take_at, drop_at}
-use Rattle.laws.specs.Bool.{◌and◌, both, join}
+use Rattle.laws.specs.Bool.{both, join}
 use Rattle.codec.specs.Read.{Read, got, bad, onward}
 use Rattle.codec.specs.Leb.{leb128}
 use Rattle.codec.specs.Numbers.{bytes_of}

@@ -1,8 +1,8 @@
 -- Numbers one behind the other.
-use Rattle.std.specs.Prelude.{Bool, true, false, ℕ, zero, suc, ◌+◌, ◌-◌, ◌^◌, ltb, take, drop}
+use Rattle.std.specs.Prelude.{Bool, true, false, ℕ, zero, suc, ◌-◌, ◌^◌, ltb, take, drop}
 use mathlib.Core.List.{List, [], ◌∷◌, flat_map}
 use Rattle.laws.specs.Every.{every}
-use Rattle.codec.specs.Read.{Read, got, bad, onward, tested}
+use Rattle.codec.specs.Read.{Read, got, onward, tested}
 use Rattle.codec.specs.Leb.{leb128, number_at}
 
 -- THE WRITER.

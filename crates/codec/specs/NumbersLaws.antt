@@ -6,7 +6,7 @@ use mathlib.Core.List.{List, [], ◌∷◌, ◌++◌, flat_map, append_assoc}
 use Prim.Native.Nat.{ℕ, zero, suc, ◌+◌, ◌^◌, ◌≤◌, ◌<◌}
 use Rattle.std.proofs.Math.ListN.{length, drop, length-append}
 use borrow.Author.Tests.{ltb-true, lt-ltb, le-ltb, eqb-true, eq-eqb}
-use Rattle.laws.specs.Bool.{if◌then◌else◌, split, ◌and◌, both, join}
+use Rattle.laws.specs.Bool.{if◌then◌else◌, split, both, join}
 use Rattle.laws.specs.Every.{every}
 use Rattle.codec.specs.Read.{Read, got, bad, onward, tested}
 use Rattle.codec.specs.Leb.{leb128, parse, number_at}

@@ -1,5 +1,5 @@
 -- What is read from bytes at a place: a value and the place behind it; or the bytes are bad.
-use Rattle.std.specs.Prelude.{Bool, List, ℕ}
+use Rattle.std.specs.Prelude.{Bool, ℕ}
 use Rattle.laws.specs.Bool.{if◌then◌else◌}
 
 pub data Read (A : Type 0) : Type 0 where

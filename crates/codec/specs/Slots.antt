@@ -1,7 +1,7 @@
 -- Slots of a fixed width, each with a lead: where the lead is 0 the slot is unused, and all of it is 0.
-use Rattle.std.specs.Prelude.{Bool, true, false, List, [], ◌∷◌, ◌++◌, ℕ, zero, suc, ◌+◌, ◌*◌, ◌-◌, ◌^◌, eqb, length, get_or, take, drop, replicate}
+use Rattle.std.specs.Prelude.{true, [], ◌∷◌, ◌++◌, ℕ, zero, suc, ◌+◌, ◌*◌, eqb, length, get_or, take, drop, replicate}
 use Rattle.laws.specs.Bool.{if◌then◌else◌, ◌and◌}
-use Rattle.codec.specs.Read.{Read, got, bad, onward}
+use Rattle.codec.specs.Read.{got, onward}
 use Rattle.codec.specs.Numbers.{number_below, numbers_at, all_below}
 use Rattle.codec.specs.Stages.{Shape, numbers, beside, all_zero}
 

@@ -1,9 +1,9 @@
 -- A value of several stages: its numbers stand in a list of a fixed length, and those that are used stand in the bytes. What a stage uses hangs on the numbers of the stages before it.
-use Rattle.std.specs.Prelude.{Bool, true, false, List, [], ◌∷◌, ◌++◌, ℕ, zero, suc, ◌+◌, ◌-◌, ◌^◌, ltb, leb, eqb, length, get_or, take, drop}
+use Rattle.std.specs.Prelude.{Bool, List, [], ◌∷◌, ◌++◌, ℕ, ◌+◌, ltb, leb, eqb, length, get_or, take, drop}
 use Rattle.laws.specs.Bool.{if◌then◌else◌, ◌and◌}
 use Rattle.laws.specs.Every.{every}
 use Rattle.laws.specs.Listing.{padded}
-use Rattle.codec.specs.Read.{Read, got, bad, onward, tested}
+use Rattle.codec.specs.Read.{Read, got, bad, onward}
 use Rattle.codec.specs.Numbers.{numbers_at, all_below}
 
 abbrev pub all_zero : List ℕ → Bool

@@ -1,5 +1,5 @@
 -- What isn't used of tidy numbers is zero.
-use Rattle.std.specs.Prelude.{◌≡◌, refl, Bool, true, false, List, [], ◌∷◌, eqb, take, drop}
+use Rattle.std.specs.Prelude.{◌≡◌, refl, true, List, [], ◌∷◌, take, drop}
 use Rattle.std.proofs.Math.Path.{sym, ap}
 use Rattle.std.proofs.Common.{◌∙◌}
 use Prim.Native.Nat.{ℕ, zero, suc, ◌+◌, ◌*◌, ◌-◌, ◌≤◌, ◌<◌}
@@ -10,7 +10,7 @@ use Rattle.std.proofs.Math.Seq.{get_or-take, get_or-drop}
 use borrow.Author.Tests.{eqb-true, eq-eqb, leb-true}
 use Rattle.laws.specs.Bool.{if◌then◌else◌, both}
 use Rattle.laws.specs.Every.{every}
-use Rattle.codec.specs.Stages.{column, numbers, beside, all_zero}
+use Rattle.codec.specs.Stages.{column, beside, all_zero}
 use Rattle.codec.specs.Slots.{slot, slots}
 
 zero_at : (xs : List ℕ) (i : ℕ) → all_zero xs ≡ true → get_or xs i 0 ≡ 0

@@ -93,6 +93,7 @@ module _ (b : Bool) where
 
   pass_adds : (ys : List Route) (t : ℕ) {x : Route} → In x ys → has t (turned b x).node ≡ true → has (pass b ys t) (turned b x).target ≡ true
   unfolding pass if◌then◌else◌
+  pass_adds [] t i h = elim i [ ]
   pass_adds (x ∷ ys) t head h =
       pass_keeps ys (spread t (turned b x)) (turned b x).target
       (rw (h, has_mark t (turned b x).target (turned b x).target) (or_right _ _ (eq-eqb (turned b x).target (turned b x).target refl)))
@@ -123,7 +124,7 @@ module _ (f : Workflow) (r : Rules f) (b : Bool) (s : ℕ) (low : s < 2 ^ f.node
       rw e at (pass_adds b f.routes (closed f b s) i (closed_whole (turned b x).node q))
 
 -- CHAINS AS DOCUMENT 01 SAYS THEM.
-onward : (xs : List Route) {a : ℕ} {x : Route} → Reaches xs x.node a → In x xs → Reaches xs x.target a
+onward : (xs : List Route) {x : Route} {a : ℕ} → Reaches xs x.node a → In x xs → Reaches xs x.target a
 onward xs here i = step i here
 onward xs (step j p) i = step j (onward xs p i)
 
@@ -167,6 +168,7 @@ module _ (f : Workflow) where
 
   ends_add : (ns : List ℕ) (s : ℕ) {n : ℕ} → In n ns → complete ≤ (node_of f n).kind → has (with_ends f ns s) n ≡ true
   unfolding with_ends if◌then◌else◌
+  ends_add [] s m h = elim m [ ]
   ends_add (n ∷ ns) s head h =
       ends_keep ns _ n (rw (le-leb complete (node_of f n).kind h, has_mark s n n) (or_right _ _ (eq-eqb n n refl)))
   ends_add (i ∷ ns) s (tail m) h = ends_add ns _ m h

@@ -202,6 +202,7 @@ module _ (b : Bool) where
 
   leads_add : (xs : List Route) (ms : List ℕ) → Fit b xs ms → {x : Route} → In x xs → has (get_or (leads b xs ms) (turned b x).node 0) (turned b x).target ≡ true
   unfolding leads
+  leads_add [] ms l i = elim i [ ]
   leads_add (x ∷ xs) ms l head =
       let y = turned b x in
       leads_keep xs (lead ms y) (fit_more x xs ms l) y.node y.target

@@ -1,0 +1,4 @@
+use Rattle.graph.proofs.reach.rule_15.Goals as goal
+
+pub returns : goal.returns
+returns c = rw (c.rule_at.ensures, c.lowest_15.ensures)
