@@ -8,8 +8,6 @@ use Rattle.graph.specs.declared.Verdict.{Verdict}
 use Rattle.graph.specs.declared.Verdict.TheVariants.{Fine, Broken}
 use Rattle.graph.specs.Chain.{stage, stage_fine, rule_holds}
 use Rattle.model.specs.declared.State.{State}
-use Rattle.model.specs.declared.event.Event.{Event}
-use Rattle.kernel.specs.declared.Limits.{Limits}
 use Rattle.model.specs.Record.{fresh}
 use Rattle.model.specs.StoreLaws.{fits_few}
 use Rattle.snapshot.specs.Check.{consistent}

@@ -7,7 +7,6 @@ use Rattle.std.proofs.Math.ListN.{length}
 use Rattle.laws.specs.Bool.{if◌then◌else◌, split, either}
 use Rattle.workflow.specs.View.{Workflow}
 use Rattle.workflow.specs.Lookup.{node_of}
-use Rattle.workflow.specs.declared.Node.{Node}
 use Rattle.workflow.specs.declared.Found.{Found}
 use Rattle.workflow.specs.declared.Found.TheVariants.{At, Nothing}
 use Rattle.model.specs.declared.State.{State}

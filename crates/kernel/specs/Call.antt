@@ -6,7 +6,6 @@ use Rattle.graph.specs.declared.Verdict.{Verdict}
 use Rattle.graph.specs.declared.Verdict.TheVariants.{Fine, Broken}
 use Rattle.graph.specs.Verdict.{rule, first_broken, verdict}
 use Rattle.model.specs.declared.State.{State}
-use Rattle.model.specs.declared.event.Event.{Event}
 use Rattle.model.specs.declared.answer.Order.{Order}
 use Rattle.model.specs.declared.answer.Note.{Note}
 use Rattle.model.specs.declared.answer.Ending.{Ending}

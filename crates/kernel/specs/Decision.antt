@@ -9,7 +9,7 @@ use Rattle.model.specs.Record.{fresh}
 use Rattle.model.specs.Step.{no_note, no_ending}
 use Rattle.kernel.specs.declared.Decision.{Decision}
 use Rattle.kernel.specs.Code.{list_room}
-use Rattle.kernel.specs.Call.{Accepted, Answer, next, wants, refused}
+use Rattle.kernel.specs.Call.{Answer, next, wants, refused}
 
 abbrev pub decision : List Note → List Ending → code.Answer → State → Decision
 decision notes endings answer state =

@@ -14,7 +14,6 @@ use Rattle.laws.specs.Listing.{padded, Listing, listing_none, listing_more, list
 use Rattle.laws.specs.Splice.{splice, splice_one, Written, write_start, write_next, write_end, flat_ones}
 use Rattle.workflow.specs.View.{Workflow}
 use Rattle.workflow.specs.Lookup.{node_of}
-use Rattle.workflow.specs.declared.Node.{Node}
 use Rattle.workflow.specs.declared.Found.{Found}
 use Rattle.workflow.specs.declared.Found.TheVariants.{At, Nothing}
 use Rattle.model.specs.declared.State.{State}
