@@ -4,12 +4,10 @@ use Rattle.std.proofs.Common.{sym, ap, subst}
 use Rattle.laws.specs.Listing.{padded}
 use Rattle.workflow.specs.View.{Workflow}
 use Rattle.model.specs.declared.State.{State}
-use Rattle.model.specs.declared.answer.Note.{Note}
-use Rattle.model.specs.declared.answer.Ending.{Ending}
 use Rattle.model.specs.declared.answer.Answer as code
 use Rattle.kernel.specs.declared.Decision.{Decision}
 use Rattle.kernel.specs.declared.Call.{Call}
-use Rattle.kernel.specs.Call.{Accepted, Answer, next, wants, refused, given_record, transition}
+use Rattle.kernel.specs.Call.{Answer, next, wants, refused, given_record, transition}
 use Rattle.kernel.specs.Decision.{decision_of}
 use Rattle.demand3.specs.Demand3.{Entry, standing, next_entry, history, Demand3}
 use Rattle.demand3.specs.Proof.{holds}

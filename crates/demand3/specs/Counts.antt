@@ -3,7 +3,7 @@ use Rattle.std.specs.Prelude.{◌≡◌, refl, false, List, [], ◌∷◌, ◌++
 use Rattle.std.proofs.Common.{arith}
 use Rattle.laws.specs.Bool.{if◌then◌else◌, if_false}
 use Rattle.laws.specs.Shift.{remove_at}
-use Rattle.laws.specs.All.{All, all_set}
+use Rattle.laws.specs.All.{all_set}
 use Rattle.workflow.specs.View.{Workflow}
 use Rattle.model.specs.Record.{no_signal, no_visits}
 use Rattle.model.specs.declared.BufferedSignal.{BufferedSignal}

@@ -15,7 +15,6 @@ use Rattle.model.specs.Code.{signal_received, activity_result}
 use Rattle.model.specs.Record.{is_terminal}
 use Rattle.model.specs.Store.{stored}
 use Rattle.snapshot.specs.Check.{consistent}
-use Rattle.kernel.specs.declared.Limits.{Limits}
 use Rattle.kernel.specs.declared.Call.{Call}
 use Rattle.kernel.specs.Code.{microsteps_exceeded}
 use Rattle.kernel.specs.Call.{Accepted, Answer, next, wants, refused, Last, no_record, last, transition}
@@ -179,8 +178,8 @@ pub record Demand3 (sheet : Workflow) (history : List Entry) : Type 0 where
   -- at a limit of 130 or more no call is refused with 26
   pub never_26 : All (λ entry. Not26 entry.call entry.said) history
 
-abbrev pub Demand3 : Type 0
-Demand3 = (sheet : Workflow) (calls : List Call) → Demand3 sheet (history sheet [] calls)
+abbrev pub demand_3 : Type 0
+demand_3 = (sheet : Workflow) (calls : List Call) → Demand3 sheet (history sheet [] calls)
 
 -- BESIDE DEMAND 3: an attempt to which a result is applied was ordered by an earlier answer of the list.
 unfoldable pub OrderedBefore : List Done → Type 0

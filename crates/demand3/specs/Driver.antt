@@ -12,7 +12,6 @@ use Rattle.laws.specs.Settle.{settle, settle_rests}
 use Rattle.workflow.specs.View.{Workflow}
 use Rattle.workflow.specs.Lookup.{node_of}
 use Rattle.workflow.specs.Sound.{Sound}
-use Rattle.workflow.specs.declared.Node.{Node}
 use Rattle.workflow.specs.declared.Found.{Found}
 use Rattle.workflow.specs.declared.Found.TheVariants.{At, Nothing}
 use Rattle.model.specs.declared.State.{State}

@@ -6,14 +6,13 @@ use Rattle.std.proofs.Math.Bool.{true, false}
 use Rattle.std.proofs.lemmas.Bool.{false≢true}
 use Rattle.std.proofs.Math.ListN.{get_or-eq_default}
 use borrow.Author.Tests.{ne_eqb, eqb-true, eqb-false}
-use Rattle.laws.specs.Bool.{if◌then◌else◌, ◌and◌, both, split}
+use Rattle.laws.specs.Bool.{if◌then◌else◌, both, split}
 use Rattle.laws.specs.Every.{every}
 use Rattle.laws.specs.All.{All, Distinct, all_map, all_replicate}
 use Rattle.laws.specs.In.{In, head, tail}
 use Rattle.workflow.specs.View.{Workflow}
 use Rattle.model.specs.declared.State.{State}
 use Rattle.model.specs.declared.Visits.{Visits}
-use Rattle.model.specs.declared.InvocationState.{InvocationState}
 use Rattle.model.specs.declared.event.Event.{Event}
 use Rattle.model.specs.declared.answer.Order.{Order}
 use Rattle.workflow.specs.Code.{none}
@@ -26,7 +25,7 @@ use Rattle.demand3.specs.Words.{is_it, times, total, Counts, plain}
 use Rattle.demand3.specs.Tidy.{Sized}
 use Rattle.demand3.specs.Closed.{none_left_empty, checked_none_left}
 use Rattle.demand3.specs.Opened.{its_attempt, Opened, closed, orders_it, as_before}
-use Rattle.demand3.specs.Keep.{base, heard, opens, rise, Heard, heard_is, Ready, nothing, Lives, Standing, gone, anew, stays, Stands, New, Ordering}
+use Rattle.demand3.specs.Keep.{base, heard, opens, rise, Heard, heard_is, Ready, nothing, Lives, gone, anew, stays, Stands, New, Ordering}
 use Rattle.kernel.specs.Call.{Accepted}
 use Rattle.demand3.specs.Demand3.{Done, Attempt, attempt, ordered_by, ordered, applied_by, applied, signals, ends, endings, dated, Same, Frozen, OrderedBefore}
 

@@ -6,7 +6,6 @@ use Rattle.workflow.specs.View.{Workflow, workflow}
 use Rattle.joint_a.specs.Sheet.{numbers}
 use Rattle.joint_a.specs.SheetLaws.{sheet, is_sheet}
 use Rattle.model.specs.declared.BufferedSignal.{BufferedSignal}
-use Rattle.model.specs.declared.State.{State}
 use Rattle.model.specs.declared.event.Event.{Event}
 use Rattle.model.specs.declared.answer.Note.{Note}
 use Rattle.model.specs.declared.answer.Ending.{Ending}

@@ -15,7 +15,6 @@ use Rattle.model.specs.declared.State.{State}
 use Rattle.model.specs.declared.event.Event.{Event}
 use Rattle.model.specs.declared.event.Mappings.{Mappings}
 use Rattle.model.specs.declared.event.Evaluated.{Evaluated}
-use Rattle.model.specs.declared.answer.Params.{Params}
 use Rattle.model.specs.declared.answer.Order.{Order}
 use Rattle.model.specs.declared.moves.Next.{Next}
 use Rattle.model.specs.declared.moves.Next.TheVariants.{Rest, Enter, Take, Consume, Wants, Refuse}

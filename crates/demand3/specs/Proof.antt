@@ -9,22 +9,19 @@ use Rattle.workflow.specs.Sound.{Sound}
 use Rattle.graph.specs.declared.Verdict.{Verdict}
 use Rattle.graph.specs.declared.Verdict.TheVariants.{Fine, Broken}
 use Rattle.model.specs.declared.State.{State}
-use Rattle.model.specs.declared.event.Event.{Event}
 use Rattle.model.specs.declared.moves.Next.{Next}
 use Rattle.model.specs.declared.moves.Next.TheVariants.{Rest, Enter, Take, Consume, Wants, Refuse}
 use Rattle.model.specs.Record.{is_terminal, fresh}
 use Rattle.model.specs.Store.{listed, stored}
 use Rattle.kernel.specs.Drive.{Machine, driven}
-use Rattle.kernel.specs.declared.Limits.{Limits}
 use Rattle.kernel.specs.declared.Call.{Call}
-use Rattle.kernel.specs.Call.{Accepted, Answer, next, wants, refused, Last, no_record, last, admission, given, finish_by, transition_by, transition}
+use Rattle.kernel.specs.Call.{Answer, next, wants, refused, Last, no_record, last, admission, given, finish_by, transition_by, transition}
 use Rattle.demand3.specs.Words.{times, plain}
-use Rattle.demand3.specs.Tidy.{Sized}
-use Rattle.demand3.specs.Demand3.{Entry, standing_after, standing, next_entry, history, Done, done_by, accepted, signals, in_store, Fate, no_signal, still_stored, has_ended, counts, Reports, Not26, Demand3, Demand3, endings, OrderedBefore, applied_were_ordered, all_ended}
+use Rattle.demand3.specs.Demand3.{Entry, standing_after, standing, next_entry, history, Done, done_by, accepted, signals, in_store, Fate, no_signal, still_stored, has_ended, counts, Demand3, endings, OrderedBefore, applied_were_ordered, all_ended, demand_3}
 use Rattle.demand3.specs.Driver.{Keeps, kept_driven, driven_frozen, driven_hears}
 use Rattle.demand3.specs.Closed.{ended_empty, checked_none_left, closes, live_closed, stands_closed, orders_closed, opens_closed, frozen_closed}
 use Rattle.demand3.specs.History.{Fact, History, fresh_history, one_more}
-use Rattle.demand3.specs.Single.{SizedLast, Admitted, admitted, Begins, begins, Single, Proper, every_call}
+use Rattle.demand3.specs.Single.{SizedLast, admitted, Begins, begins, Single, Proper, every_call}
 
 -- After the accepted calls ds: the record that stands, or any fresh one.
 abbrev Inv : (f : Workflow) → List Done → Last → Type 0
@@ -154,7 +151,7 @@ whole f h no_record e i g = told_by f h (fresh 0) (i 0) g (λ q. ap (in_store q)
 whole f h (last s) e i g = told_by f h s i g (λ q. ap (in_store q) e)
 
 -- DEMAND 3.
-pub holds : Demand3
+pub holds : demand_3
 holds f calls = let g = kept f calls [] (at_first f) in whole f (history f [] calls) _ refl g.inv g
 
 -- BESIDE IT: what was applied was ordered, every signal of an ended run has ended, and every answer of a list is a proper one.

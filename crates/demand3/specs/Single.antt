@@ -7,13 +7,11 @@ use Rattle.std.proofs.Math.Bool.{true}
 use Rattle.std.proofs.lemmas.Bool.{false≢true, not-true}
 use Rattle.std.proofs.Math.Logic.{inl, inr}
 use Rattle.std.proofs.Math.ListN.{length}
-use Rattle.laws.specs.Bool.{◌and◌, ◌or◌, both, if_true, if_false, either, split}
-use Rattle.laws.specs.All.{All}
+use Rattle.laws.specs.Bool.{◌or◌, both, if_true, if_false, either, split}
 use Rattle.workflow.specs.Code.{none}
 use Rattle.workflow.specs.View.{Workflow}
 use Rattle.workflow.specs.Lookup.{node_of}
 use Rattle.workflow.specs.Sound.{Sound}
-use Rattle.workflow.specs.declared.Node.{Node}
 use Rattle.graph.specs.declared.Verdict.{Verdict}
 use Rattle.graph.specs.declared.Verdict.TheVariants.{Fine, Broken}
 use Rattle.graph.specs.Verdict.{verdict}
@@ -33,9 +31,8 @@ use Rattle.snapshot.specs.Check.{is_no_invocation, terminal_fits, waits, works, 
 use Rattle.machine.specs.Events.{apply}
 use Rattle.kernel.specs.Code.{event_unfit, out_of_sequence, not_started, started_before, inconsistent, microsteps_exceeded, commands_exceeded, operations_exceeded}
 use Rattle.kernel.specs.Drive.{Machine, started, driven}
-use Rattle.kernel.specs.declared.Limits.{Limits}
 use Rattle.kernel.specs.declared.Call.{Call}
-use Rattle.kernel.specs.Call.{Accepted, Answer, next, wants, refused, Last, no_record, last, is_start, start_stage, next_stage, record_stage, admission, given, finish_by, transition_by, transition}
+use Rattle.kernel.specs.Call.{Answer, next, wants, refused, Last, no_record, last, is_start, start_stage, next_stage, record_stage, admission, given, finish_by, transition_by, transition}
 use Rattle.demand3.specs.Steps.{steps, begun_by, begun}
 use Rattle.demand3.specs.StepsLaws.{few_steps, counts_steps}
 use Rattle.demand3.specs.Demand3.{Reports, Not26}

@@ -4,7 +4,6 @@ use Rattle.std.specs.Prelude.{ℕ, zero, suc, ◌+◌}
 use Rattle.laws.specs.Bool.{if◌then◌else◌}
 use Rattle.workflow.specs.View.{Workflow}
 use Rattle.workflow.specs.Lookup.{node_of}
-use Rattle.workflow.specs.declared.Node.{Node}
 use Rattle.workflow.specs.declared.Found.{Found}
 use Rattle.workflow.specs.declared.Found.TheVariants.{At, Nothing}
 use Rattle.graph.specs.declared.Verdict.{Verdict}
@@ -15,7 +14,6 @@ use Rattle.model.specs.declared.event.Mappings.{Mappings}
 use Rattle.model.specs.declared.moves.Next.{Next}
 use Rattle.model.specs.declared.moves.Next.TheVariants.{Rest, Enter, Take, Consume, Wants, Refuse}
 use Rattle.model.specs.Store.{first_signal}
-use Rattle.kernel.specs.declared.Limits.{Limits}
 use Rattle.kernel.specs.declared.Call.{Call}
 use Rattle.kernel.specs.Drive.{Machine, advance, is_moving, started}
 use Rattle.kernel.specs.Call.{Last, admission, given}

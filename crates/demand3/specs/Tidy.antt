@@ -1,5 +1,5 @@
 -- Every move keeps the run check: what it hands back is tidy, and where it rests the run stands as it should.
-use Rattle.std.specs.Prelude.{◌≡◌, ◌⊎◌, Bool, false, List, ℕ, ◌+◌, ◌-◌, ◌≤◌, ◌<◌, length, get_or, eqb, leb, ltb}
+use Rattle.std.specs.Prelude.{◌≡◌, ◌⊎◌, Bool, false, List, ℕ, ◌+◌, ◌≤◌, ◌<◌, length, get_or, eqb, leb, ltb}
 use Rattle.std.proofs.Math.Path.{refl, sym}
 use Rattle.std.proofs.Common.{◌∙◌, ap, get_or-set_same}
 use Rattle.std.proofs.Math.Logic.{inl, inr}
@@ -186,6 +186,10 @@ module _ (f : Workflow) where
   missed : (s : State) (k : Next) → Missed k → Waiting s → After s k
   missed s Rest rests w = record { tidy = w.on.tidy; well = w.well }
   missed s Consume consumes w = w
+  missed s (Enter _ _) c w = elim c [ ]
+  missed s Take c w = elim c [ ]
+  missed s (Wants _ _ _) c w = elim c [ ]
+  missed s (Refuse _) c w = elim c [ ]
 
   -- A SIGNAL goes from the store, or comes to it.
   tidy_signals : (s : State) {xs : List BufferedSignal} {k : ℕ} → Stores xs k → Tidies s → Tidies (set_signals s xs k)

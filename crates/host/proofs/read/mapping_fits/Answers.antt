@@ -1,0 +1,5 @@
+use Rattle.host.specs.ReadLaws.{each_fits}
+use Rattle.host.proofs.read.mapping_fits.Goals as goal
+
+pub returns : goal.returns
+returns c = each_fits _ _ _

@@ -1,0 +1,5 @@
+use Rattle.host.specs.WriteRows.{signal_is}
+use Rattle.host.proofs.write.signal_digits.Goals as goal
+
+pub returns : goal.returns
+returns c = λ e. signal_is _ e

@@ -1,0 +1,5 @@
+use Rattle.host.specs.WriteRows.{streak_is}
+use Rattle.host.proofs.write.streak_digits.Goals as goal
+
+pub returns : goal.returns
+returns c = λ e. streak_is _ e

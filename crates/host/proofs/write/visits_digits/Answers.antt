@@ -1,0 +1,5 @@
+use Rattle.host.specs.WriteRows.{visits_is}
+use Rattle.host.proofs.write.visits_digits.Goals as goal
+
+pub returns : goal.returns
+returns c = λ e. visits_is _ e

@@ -1,0 +1,17 @@
+use native.Mathlib.Omega.{arith}
+use Prim.Native.Nat.{◌-◌}
+use Rattle.host.specs.Write.{note_numbers}
+use Rattle.host.specs.WriteRows.{writing_next, writing_end}
+use Rattle.host.proofs.write.write_notes.Goals as goal
+
+pub loop-i-preserved : goal.loop-i-preserved
+unfolding note_numbers
+loop-i-preserved c = 
+    let inv = c.loop-i.invariant in
+    writing_next inv _ (omega arith) c.loop-i-test.true (omega (arith, inv.past.low)) c.write.ensures
+
+pub shape_of-out : goal.shape_of-out
+shape_of-out c = c.loop-i.invariant.written.long
+
+pub returns : goal.returns
+returns c = writing_end c.loop-i.invariant c.loop-i-test.false

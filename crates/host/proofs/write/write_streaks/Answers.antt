@@ -1,0 +1,24 @@
+use native.Mathlib.Omega.{arith}
+use Prim.Native.Nat.{◌-◌}
+use Rattle.host.specs.Write.{streak_numbers}
+use Rattle.host.specs.WriteLaws.{length_streak}
+use Rattle.host.specs.WriteRows.{joined_next, joined_end, writing_start, writing_next, writing_end}
+use Rattle.host.proofs.write.write_streaks.Goals as goal
+
+pub loop-k-preserved : goal.loop-k-preserved
+loop-k-preserved c = joined_next c.loop-k.invariant _ c.loop-k-test.true c.streak_digits-digits.ensures
+
+pub loop-i-init : goal.loop-i-init
+loop-i-init c = writing_start length_streak c.loop-k.invariant.long (joined_end c.loop-k.invariant c.rows_of-rows.ensures c.requires.1 c.loop-k-test.false)
+
+pub loop-i-preserved : goal.loop-i-preserved
+unfolding streak_numbers
+loop-i-preserved c = 
+    let inv = c.loop-i.invariant in
+    writing_next inv _ (omega arith) c.loop-i-test.true (omega (arith, inv.past.low)) c.write.ensures
+
+pub shape_of-out : goal.shape_of-out
+shape_of-out c = c.loop-i.invariant.written.long
+
+pub returns : goal.returns
+returns c = writing_end c.loop-i.invariant c.loop-i-test.false

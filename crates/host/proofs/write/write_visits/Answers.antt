@@ -1,0 +1,24 @@
+use native.Mathlib.Omega.{arith}
+use Prim.Native.Nat.{◌-◌}
+use Rattle.host.specs.Write.{visits_numbers}
+use Rattle.host.specs.WriteLaws.{length_visits}
+use Rattle.host.specs.WriteRows.{joined_next, joined_end, writing_start, writing_next, writing_end}
+use Rattle.host.proofs.write.write_visits.Goals as goal
+
+pub loop-k-preserved : goal.loop-k-preserved
+loop-k-preserved c = joined_next c.loop-k.invariant _ c.loop-k-test.true c.visits_digits-digits.ensures
+
+pub loop-i-init : goal.loop-i-init
+loop-i-init c = writing_start length_visits c.loop-k.invariant.long (joined_end c.loop-k.invariant c.rows_of-rows.ensures c.requires.1 c.loop-k-test.false)
+
+pub loop-i-preserved : goal.loop-i-preserved
+unfolding visits_numbers
+loop-i-preserved c = 
+    let inv = c.loop-i.invariant in
+    writing_next inv _ (omega arith) c.loop-i-test.true (omega (arith, inv.past.low)) c.write.ensures
+
+pub shape_of-out : goal.shape_of-out
+shape_of-out c = c.loop-i.invariant.written.long
+
+pub returns : goal.returns
+returns c = writing_end c.loop-i.invariant c.loop-i-test.false
