@@ -9,8 +9,8 @@ pub returns-then-lengths-ne-WRITTEN : goal.returns-then-lengths-ne-WRITTEN
 returns-then-lengths-ne-WRITTEN c = 
     let a = c.args in
     let e = c.by_lengths-lengths.ensures in
-    let turned = receipt_turned a.sheet-len a.call.now a.given.now _ (λ z. c.if-lengths-ne-WRITTEN.true (e ∙ z)) in
-    (e ∙ turned, (untouched a.sheet.now a.sheet-len a.call.now a.given.now a.answer.now (λ z. c.if-lengths-ne-WRITTEN.true (e ∙ turned ∙ z)), λ z. absurd (c.if-lengths-ne-WRITTEN.true z)))
+    let turned = receipt_turned a.sheet_len a.call.now a.given.now _ (λ z. c.if-lengths-ne-WRITTEN.true (e ∙ z)) in
+    (e ∙ turned, (untouched a.sheet.now a.sheet_len a.call.now a.given.now a.answer.now (λ z. c.if-lengths-ne-WRITTEN.true (e ∙ turned ∙ z)), λ z. absurd (c.if-lengths-ne-WRITTEN.true z)))
 
 pub bounds-call-7 : goal.bounds-call-7
 bounds-call-7 c = omega (arith, (lent _ _ _ _ (sym c.by_lengths-lengths.ensures ∙ c.if-lengths-ne-WRITTEN.false)).call)
@@ -36,7 +36,7 @@ pub returns-then-numbers-eq-WRITTEN : goal.returns-then-numbers-eq-WRITTEN
 returns-then-numbers-eq-WRITTEN c = 
     let a = c.args in
     let w = a.sheet.now in
-    let n = a.sheet-len in
+    let n = a.sheet_len in
     let k = a.call.now in
     let r = a.given.now in
     let b = a.answer.now in
@@ -47,5 +47,5 @@ returns-then-numbers-eq-WRITTEN c =
 pub returns-else-numbers-eq-WRITTEN : goal.returns-else-numbers-eq-WRITTEN
 returns-else-numbers-eq-WRITTEN c = 
     let a = c.args in
-    let told = c.by_numbers-numbers.ensures ∙ receipt_read a.sheet-len a.call.now a.given.now _ (sym c.by_lengths-lengths.ensures ∙ c.if-lengths-ne-WRITTEN.false) in
-    (told, (untouched a.sheet.now a.sheet-len a.call.now a.given.now a.answer.now (λ z. c.if-numbers-eq-WRITTEN.false (told ∙ z)), λ z. absurd (c.if-numbers-eq-WRITTEN.false z)))
+    let told = c.by_numbers-numbers.ensures ∙ receipt_read a.sheet_len a.call.now a.given.now _ (sym c.by_lengths-lengths.ensures ∙ c.if-lengths-ne-WRITTEN.false) in
+    (told, (untouched a.sheet.now a.sheet_len a.call.now a.given.now a.answer.now (λ z. c.if-numbers-eq-WRITTEN.false (told ∙ z)), λ z. absurd (c.if-numbers-eq-WRITTEN.false z)))

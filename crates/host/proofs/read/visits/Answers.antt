@@ -1,10 +1,15 @@
+use Rattle.std.proofs.Common.{rules}
+use mathlib.Core.Path.{refl}
 use Prim.Native.Nat.{◌-◌}
 use Rattle.host.specs.Read.{visits_of}
-use Rattle.host.specs.ByCount.{rows_next, rows_end}
+use Rattle.host.specs.ByCount.{rows_start, rows_next, rows_end}
 use Rattle.host.proofs.read.visits.Goals as goal
 
 pub loop-i-preserved : goal.loop-i-preserved
 loop-i-preserved c = rows_next c.loop-i.invariant c.visits_of.ensures c.loop-i-test.true
+
+pub loop-i-init : goal.loop-i-init
+loop-i-init c = rows_start refl (search rules)
 
 pub returns : goal.returns
 returns c = rows_end c.loop-i.invariant c.loop-i-test.false

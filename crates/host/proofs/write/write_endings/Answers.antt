@@ -1,7 +1,9 @@
+use Rattle.std.proofs.Common.{rules}
 use native.Mathlib.Omega.{arith}
 use Prim.Native.Nat.{◌-◌}
 use Rattle.host.specs.Write.{ending_numbers}
-use Rattle.host.specs.WriteRows.{writing_next, writing_end}
+use Rattle.host.specs.WriteLaws.{length_ending}
+use Rattle.host.specs.WriteRows.{writing_start, writing_next, writing_end}
 use Rattle.host.proofs.write.write_endings.Goals as goal
 
 pub loop-i-preserved : goal.loop-i-preserved
@@ -9,6 +11,9 @@ unfolding ending_numbers
 loop-i-preserved c = 
     let inv = c.loop-i.invariant in
     writing_next inv _ (omega arith) c.loop-i-test.true (omega (arith, inv.past.low)) c.write.ensures
+
+pub loop-i-init : goal.loop-i-init
+loop-i-init c = writing_start length_ending (search rules) c.requires.1
 
 pub shape_of-out : goal.shape_of-out
 shape_of-out c = c.loop-i.invariant.written.long

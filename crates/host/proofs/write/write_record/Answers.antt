@@ -9,14 +9,11 @@ use Rattle.laws.specs.Arrays.{length_field}
 use Rattle.std.proofs.Common.{rules}
 use Rattle.host.proofs.write.write_record.Goals as goal
 
-whole : (c : goal.Start) → Whole c.args.s
-whole c = record { signals = search (rules, length_field); visits = search (rules, length_field); streaks = search (rules, length_field); results = search (rules, length_field) }
-
 pub returns : goal.returns
 unfolding record_numbers
 returns c = 
-    let h = whole c.before.before.before.before.before.before.before.before.before.before.before.before.before.before.before.before.before.before.before.before.before.before.before.before.before.before in
-    let w0 = wrote_none _ c.args.at record_length c.requires. c.requires.2 in
+    let h : Whole c.args.s = record { signals = search (rules, length_field); visits = search (rules, length_field); streaks = search (rules, length_field); results = search (rules, length_field) } in
+    let w0 = wrote_none _ c.args.at record_length c.requires.0 c.requires.2 in
     let w1 = wrote_part w0 {m = record_length - record_signals} refl (length_head _) (omega arith) (omega arith) c.write_head.ensures in
     let w2 = wrote_rows w1 signal_width {m = record_length - record_visits} length_signal signal_zeros h.signals (omega arith) (omega arith) c.write_signals.ensures in
     let w3 = wrote_rows w2 1 {m = record_length - record_streaks} length_visits visits_zeros h.visits (omega arith) (omega arith) c.write_visits.ensures in

@@ -1,10 +1,11 @@
+use Rattle.std.proofs.Common.{rules}
 use native.Mathlib.Omega.{arith}
 use mathlib.Core.Path.{◌∙◌, ap}
 use Prim.Native.Nat.{◌+◌, ◌*◌, ◌-◌}
 use Rattle.laws.specs.Splice.{splice}
 use Rattle.host.specs.Layout.{result_width}
 use Rattle.host.specs.WriteLaws.{length_result, result_row}
-use Rattle.host.specs.WriteRows.{joined_next, joined_end, writing_start, writing_next, writing_end}
+use Rattle.host.specs.WriteRows.{joined_start, joined_next, joined_end, writing_start, writing_next, writing_end}
 use Rattle.host.proofs.write.write_results.Goals as goal
 
 pub loop-k-preserved : goal.loop-k-preserved
@@ -19,6 +20,9 @@ loop-i-preserved c =
     let inv = c.loop-i.invariant in
     writing_next inv _ {k = at + result_width * c.loop-i.i} (omega arith) c.loop-i-test.true (omega (arith, inv.past.low))
     (c.write.ensures ∙ ap (splice c.loop-i.out (at + result_width * c.loop-i.i)) (result_row _ _ c.numbers-o.ensures))
+
+pub loop-k-init : goal.loop-k-init
+loop-k-init c = joined_start (search rules)
 
 pub shape_of-out : goal.shape_of-out
 shape_of-out c = c.loop-i.invariant.written.long

@@ -1,8 +1,9 @@
+use Rattle.std.proofs.Common.{rules}
 use native.Mathlib.Omega.{arith}
 use Prim.Native.Nat.{◌-◌}
 use Rattle.host.specs.Write.{visits_numbers}
 use Rattle.host.specs.WriteLaws.{length_visits}
-use Rattle.host.specs.WriteRows.{joined_next, joined_end, writing_start, writing_next, writing_end}
+use Rattle.host.specs.WriteRows.{joined_start, joined_next, joined_end, writing_start, writing_next, writing_end}
 use Rattle.host.proofs.write.write_visits.Goals as goal
 
 pub loop-k-preserved : goal.loop-k-preserved
@@ -16,6 +17,9 @@ unfolding visits_numbers
 loop-i-preserved c = 
     let inv = c.loop-i.invariant in
     writing_next inv _ (omega arith) c.loop-i-test.true (omega (arith, inv.past.low)) c.write.ensures
+
+pub loop-k-init : goal.loop-k-init
+loop-k-init c = joined_start (search rules)
 
 pub shape_of-out : goal.shape_of-out
 shape_of-out c = c.loop-i.invariant.written.long
