@@ -10,7 +10,11 @@ returns-then-lengths-ne-WRITTEN c =
     let a = c.args in
     let e = c.by_lengths-lengths.ensures in
     let turned = receipt_turned a.sheet_len a.call.now a.given.now _ (λ z. c.if-lengths-ne-WRITTEN.true (e ∙ z)) in
-    (e ∙ turned, (untouched a.sheet.now a.sheet_len a.call.now a.given.now a.answer.now (λ z. c.if-lengths-ne-WRITTEN.true (e ∙ turned ∙ z)), λ z. absurd (c.if-lengths-ne-WRITTEN.true z)))
+    record {
+      value = e ∙ turned;
+      answer_after = untouched a.sheet.now a.sheet_len a.call.now a.given.now a.answer.now (λ z. c.if-lengths-ne-WRITTEN.true (e ∙ turned ∙ z));
+      full = λ z. absurd (c.if-lengths-ne-WRITTEN.true z);
+    }
 
 pub bounds-call-7 : goal.bounds-call-7
 bounds-call-7 c = omega (arith, (lent _ _ _ _ (sym c.by_lengths-lengths.ensures ∙ c.if-lengths-ne-WRITTEN.false)).call)
@@ -42,10 +46,18 @@ returns-then-numbers-eq-WRITTEN c =
     let b = a.answer.now in
     let told = c.by_numbers-numbers.ensures ∙ receipt_read n k r _ (sym c.by_lengths-lengths.ensures ∙ c.if-lengths-ne-WRITTEN.false) in
     let d = made w n k r b c.used_rows-used.ensures c.read_record.ensures c.read_call.ensures c.transition.ensures in
-    (told, (left w n k r b d (sym told ∙ c.if-numbers-eq-WRITTEN.true) c.write_decision.ensures.out_after, λ _. full b d c.write_decision.ensures.d_len c.write_decision.ensures.out_after (λ i. omega (arith, c.slice_known-then-numbers-eq-WRITTEN-1.given i))))
+    record {
+      value = told;
+      answer_after = left w n k r b d (sym told ∙ c.if-numbers-eq-WRITTEN.true) c.write_decision.ensures.out_after;
+      full = λ _. full b d c.write_decision.ensures.d_len c.write_decision.ensures.out_after (λ i. omega (arith, c.type_inv.answer i));
+    }
 
 pub returns-else-numbers-eq-WRITTEN : goal.returns-else-numbers-eq-WRITTEN
 returns-else-numbers-eq-WRITTEN c = 
     let a = c.args in
     let told = c.by_numbers-numbers.ensures ∙ receipt_read a.sheet_len a.call.now a.given.now _ (sym c.by_lengths-lengths.ensures ∙ c.if-lengths-ne-WRITTEN.false) in
-    (told, (untouched a.sheet.now a.sheet_len a.call.now a.given.now a.answer.now (λ z. c.if-numbers-eq-WRITTEN.false (told ∙ z)), λ z. absurd (c.if-numbers-eq-WRITTEN.false z)))
+    record {
+      value = told;
+      answer_after = untouched a.sheet.now a.sheet_len a.call.now a.given.now a.answer.now (λ z. c.if-numbers-eq-WRITTEN.false (told ∙ z));
+      full = λ z. absurd (c.if-numbers-eq-WRITTEN.false z);
+    }
