@@ -106,9 +106,9 @@ fn digits(bytes: &[u8; RUN_BYTES], size: usize)
 // The run's bytes.
 fn hexadecimal(xs: &[u64; ANSWER]) {
     let mut bytes = [0u8; RUN_BYTES];
-    let size = bytes::run::run_size(xs, RUN);
+    let size = in_bytes::run::run_size(xs, RUN);
     if size <= RUN_BYTES {
-        bytes::run::write_run(&mut bytes, 0, xs, RUN);
+        in_bytes::run::write_run(&mut bytes, 0, xs, RUN);
         digits(&bytes, size);
     }
 }
@@ -216,7 +216,7 @@ fn main() {
     let mut answer = [0u64; ANSWER];
     let mut read = false;
     if size < ENOUGH {
-        read = bytes::decide(&buffer[..size], &mut answer);
+        read = in_bytes::decide(&buffer[..size], &mut answer);
     }
     if read {
         show(&answer);

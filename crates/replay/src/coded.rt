@@ -91,7 +91,7 @@ fn count(xs: &[u64], at: usize) -> usize
 // A run's bytes, 0 where it isn't written.
 fn run(out: &mut [u8], at: usize, record: &[u64]) -> usize {
     let mut bytes = [0u8; ENOUGH];
-    let told = bytes::kuxhoveza_write_run(record, &mut bytes);
+    let told = in_bytes::kuxhoveza_write_run(record, &mut bytes);
     if told % HALF == 0 {
         return copied(out, at, &bytes, told / HALF);
     }
@@ -108,7 +108,7 @@ fn given(out: &mut [u8], at: usize, mark: u64, record: &[u64; RECORD]) -> usize 
 // The call, 0 where its sheet or its run isn't written, or it has more mapping answers than a call in bytes can have.
 fn call(out: &mut [u8], sheet: &[u32; SHEET], call: &[u64; CALL], record: &[u64; RECORD]) -> usize {
     let mut bytes = [0u8; ENOUGH];
-    let told = bytes::kuxhoveza_write_sheet(sheet, &mut bytes);
+    let told = in_bytes::kuxhoveza_write_sheet(sheet, &mut bytes);
     if told % HALF != 0 {
         return 0;
     }
@@ -215,7 +215,7 @@ pub fn judged(
         return 0;
     }
     let mut out = [0u8; ENOUGH];
-    let told = bytes::kuxhoveza_call(&bytes[..size], &mut out);
+    let told = in_bytes::kuxhoveza_call(&bytes[..size], &mut out);
     if agrees(told, &out, xs) {
         return 1;
     }

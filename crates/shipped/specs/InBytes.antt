@@ -12,11 +12,11 @@ use Rattle.host.specs.Read.{at, has_record, record_of, call_of, record_fits, cal
 use Rattle.host.specs.ReadAnswer.{answer_of_numbers}
 use Rattle.codec.specs.Read.{Read, got, bad, onward}
 use Rattle.codec.specs.Numbers.{bytes_of, numbers_at, all_below}
-use Rattle.bytes.specs.Sheet.{sheet as sheet_shape}
-use Rattle.bytes.specs.Run.{run as run_shape}
-use Rattle.bytes.specs.Call.{call as call_shape, without_sheet, run_in, numbers_in}
-use Rattle.bytes.specs.Answer.{answer as answer_shape}
-use Rattle.bytes.specs.Boundary.{bad_bytes, short, Decided, said, unread, decide, Outcome, call_bytes, returned as returned_by, left, Of64Bits}
+use Rattle.in_bytes.specs.Sheet.{sheet as sheet_shape}
+use Rattle.in_bytes.specs.Run.{run as run_shape}
+use Rattle.in_bytes.specs.Call.{call as call_shape, without_sheet, run_in, numbers_in}
+use Rattle.in_bytes.specs.Answer.{answer as answer_shape}
+use Rattle.in_bytes.specs.Boundary.{bad_bytes, short, Decided, said, unread, decide, Outcome, call_bytes, returned as returned_by, left, Of64Bits}
 
 -- ONE CALL of the function: the bytes and the buffer that are lent to it; the number that it returns; and the buffer after it.
 pub record Made : Type 0 where

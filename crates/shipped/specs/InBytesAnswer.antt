@@ -15,9 +15,9 @@ use Rattle.codec.specs.Stages.{numbers, column, beside, staged}
 use Rattle.codec.specs.Exact.{bytes_append}
 use Rattle.codec.specs.NumbersLaws.{numbers_exact}
 use Rattle.codec.specs.ColumnsLaws.{tidy_column, bytes_few}
-use Rattle.bytes.specs.Run.{run}
-use Rattle.bytes.specs.RunLaws.{run_exact, run_width, run_few}
-use Rattle.bytes.specs.Answer.{next, want, answer}
+use Rattle.in_bytes.specs.Run.{run}
+use Rattle.in_bytes.specs.RunLaws.{run_exact, run_width, run_few}
+use Rattle.in_bytes.specs.Answer.{next, want, answer}
 use Rattle.shipped.specs.InBytes.{behind, run_in_answer}
 
 -- Behind what stands at a place.

@@ -18,12 +18,12 @@ use Rattle.codec.specs.Numbers.{bytes_of, numbers_at}
 use Rattle.codec.specs.Stages.{numbers, beside, Stage, staged}
 use Rattle.codec.specs.Exact.{not_bad}
 use Rattle.codec.specs.ReadLaws.{both_read}
-use Rattle.bytes.specs.Sheet.{sheet as sheet_shape}
-use Rattle.bytes.specs.SheetLaws.{sheet_exact, sheet_width}
-use Rattle.bytes.specs.Run.{run}
-use Rattle.bytes.specs.RunLaws.{run_exact, run_width}
-use Rattle.bytes.specs.Call.{mark, given, event_numbers, answered, answers, rest as rest_shape, limits as limits_stage, the_sheet, the_rest, call, sheet_in, without_sheet, run_in, numbers_in}
-use Rattle.bytes.specs.Boundary.{said, unread, ended, whole, on_numbers, decide}
+use Rattle.in_bytes.specs.Sheet.{sheet as sheet_shape}
+use Rattle.in_bytes.specs.SheetLaws.{sheet_exact, sheet_width}
+use Rattle.in_bytes.specs.Run.{run}
+use Rattle.in_bytes.specs.RunLaws.{run_exact, run_width}
+use Rattle.in_bytes.specs.Call.{mark, given, event_numbers, answered, answers, rest as rest_shape, limits as limits_stage, the_sheet, the_rest, call, sheet_in, without_sheet, run_in, numbers_in}
+use Rattle.in_bytes.specs.Boundary.{said, unread, ended, whole, on_numbers, decide}
 use Rattle.shipped.specs.Shipped.{Standing as Numbers, nothing as no_numbers, numbers as numbers_stand}
 use Rattle.shipped.specs.InBytes.{Standing, nothing, run_bytes, given_bytes, Gets, mark_of}
 use Rattle.shipped.specs.InBytesAnswer.{past, numbers_there}

@@ -22,14 +22,14 @@ use Rattle.host.specs.Host.{receipt, decided, answered}
 use Rattle.host.specs.AnswerBack.{answer_numbers_length, splice_begins, answered_begins}
 use Rattle.codec.specs.Read.{got}
 use Rattle.codec.specs.Numbers.{bytes_of, all_below}
-use Rattle.bytes.specs.Sheet.{sheet as sheet_shape}
-use Rattle.bytes.specs.Run.{run as run_shape}
-use Rattle.bytes.specs.RunLaws.{run_exact}
-use Rattle.bytes.specs.Call.{without_sheet, run_in, numbers_in}
-use Rattle.bytes.specs.Answer.{answer as answer_shape}
-use Rattle.bytes.specs.AnswerLaws.{answer_exact}
-use Rattle.bytes.specs.Boundary.{bad_bytes, short, no_item, done, packed, returned as returned_by, left, into, Decided, said, unread, decide, told as told_of}
-use Rattle.bytes.specs.BoundaryLaws.{all_back}
+use Rattle.in_bytes.specs.Sheet.{sheet as sheet_shape}
+use Rattle.in_bytes.specs.Run.{run as run_shape}
+use Rattle.in_bytes.specs.RunLaws.{run_exact}
+use Rattle.in_bytes.specs.Call.{without_sheet, run_in, numbers_in}
+use Rattle.in_bytes.specs.Answer.{answer as answer_shape}
+use Rattle.in_bytes.specs.AnswerLaws.{answer_exact}
+use Rattle.in_bytes.specs.Boundary.{bad_bytes, short, no_item, done, packed, returned as returned_by, left, into, Decided, said, unread, decide, told as told_of}
+use Rattle.in_bytes.specs.BoundaryLaws.{all_back}
 use Rattle.shipped.specs.Shipped.{Standing as Numbers, nothing as no_numbers, numbers as numbers_stand}
 use Rattle.shipped.specs.Shipped as shipped
 use Rattle.shipped.specs.Refusals.{KnownAnswer}

@@ -24,10 +24,10 @@ use Rattle.host.specs.Write.{note_numbers, ending_numbers, record_numbers, state
 use Rattle.host.specs.WriteLaws.{flat_size, length_answer, length_note, length_ending}
 use Rattle.codec.specs.Numbers.{all_below}
 use Rattle.codec.specs.Stages.{Stage, numbers, column, staged, all_zero}
-use Rattle.bytes.specs.Run.{run}
-use Rattle.bytes.specs.Answer.{counted_rows, the_run, answer}
-use Rattle.bytes.specs.Answer as bytes
-use Rattle.bytes.specs.RunLaws.{run_exact}
+use Rattle.in_bytes.specs.Run.{run}
+use Rattle.in_bytes.specs.Answer.{counted_rows, the_run, answer}
+use Rattle.in_bytes.specs.Answer as bytes
+use Rattle.in_bytes.specs.RunLaws.{run_exact}
 use Rattle.shipped.specs.TidyRows.{every_parts, stage_tidy, no_stage_tidy, numbers_tidy, rows_zero, rows_column}
 use Rattle.shipped.specs.TidyRecord.{tidies_tidy, record_tidy}
 

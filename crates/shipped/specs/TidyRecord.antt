@@ -25,7 +25,7 @@ use Rattle.codec.specs.Numbers.{all_below}
 use Rattle.codec.specs.Stages.{numbers, column, all_zero}
 use Rattle.codec.specs.Slots.{slots}
 use Rattle.codec.specs.SlotsLaws.{slots_width}
-use Rattle.bytes.specs.Run.{single_numbers, stored_signals, all_visits, all_streaks, all_results, run}
+use Rattle.in_bytes.specs.Run.{single_numbers, stored_signals, all_visits, all_streaks, all_results, run}
 use Rattle.shipped.specs.TidyRows.{every_parts, stage_tidy, no_stage_tidy, numbers_tidy, rows_zero, rows_column, rows_slots}
 
 -- UNUSED ROWS.

@@ -12,7 +12,7 @@ use Rattle.host.specs.Lists.{every_all}
 use Rattle.codec.specs.Numbers.{all_below}
 use Rattle.codec.specs.Stages.{all_zero, numbers, column, beside, columns, staged}
 use Rattle.codec.specs.ColumnsLaws.{tidy_column}
-use Rattle.bytes.specs.Sheet.{rooms, used, sheet}
+use Rattle.in_bytes.specs.Sheet.{rooms, used, sheet}
 
 module _ (top : ℕ) (some : 0 < top) where
   halves_below : (k : ℕ) (ns : List ℕ) → all_below top (take k ns) ≡ true → all_below top (drop k ns) ≡ true → all_below top ns ≡ true

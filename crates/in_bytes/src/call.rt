@@ -1,0 +1,103 @@
+// A call from bytes: ceilings and limits; the sheet; 0, or 1 and a run; the event; the mapping answers after their count.
+ghost use Rattle.std.specs.Prelude.{◌≡◌, replicate};
+ghost use Rattle.workflow.specs.Layout.{numbers as sheet-length};
+ghost use Rattle.host.specs.Layout.{record_length, call_length, call_has_record};
+ghost use Rattle.host.specs.Write.{marked};
+ghost use Rattle.codec.specs.Stored.{place_of, Stored, ZeroFrom};
+ghost use Rattle.in_bytes.specs.Call.{given_shape, rest, call as whole-call};
+ghost use Rattle.in_bytes.specs.CallStored.{RestStored, CallStored};
+
+use crate::run::read_run;
+use crate::sheet::read_sheet;
+use codec::numbers::{Place, read_longs};
+use host::layout;
+use workflow::layout::NUMBERS;
+
+fn read_given(
+    bytes: &[u8],
+    start: usize,
+    has_record: bool,
+    run: &mut [u64; layout::RECORD],
+) -> Place
+    requires { run.old ≡ replicate record_length 0 }
+    ensures value { result ≡ place_of ((given_shape (marked has_record)).read bytes.now start) }
+    ensures stored { Stored ((given_shape (marked has_record)).read bytes.now start) run.old 0 run.new }
+{
+    if has_record {
+        return read_run(bytes, start, run);
+    }
+    Place::At(start)
+}
+
+// What stands behind the sheet.
+pub fn read_rest(
+    bytes: &[u8],
+    start: usize,
+    call: &mut [u64; layout::CALL],
+    run: &mut [u64; layout::RECORD],
+) -> Place
+    requires { ZeroFrom call_has_record call.old × (run.old ≡ replicate record_length 0) }
+    ensures value { result ≡ place_of (rest.read bytes.now start) }
+    ensures rest_stored { RestStored (rest.read bytes.now start) call.old call.new run.new }
+{
+    let mark = read_longs(
+        bytes,
+        start,
+        call,
+        layout::CALL_HAS_RECORD,
+        layout::CALL_SEQUENCE,
+    );
+    let Place::At(first) = mark else {
+        return Place::Bad;
+    };
+    if 1 < call[layout::CALL_HAS_RECORD] {
+        return Place::Bad;
+    }
+    let given = read_given(bytes, first, call[layout::CALL_HAS_RECORD] == 1, run);
+    let Place::At(second) = given else {
+        return Place::Bad;
+    };
+    let event = read_longs(
+        bytes,
+        second,
+        call,
+        layout::CALL_SEQUENCE,
+        layout::CALL_MAPPINGS,
+    );
+    let Place::At(third) = event else {
+        return Place::Bad;
+    };
+    let answered = call[layout::CALL_ANSWERED];
+    if 2 < answered {
+        return Place::Bad;
+    }
+    read_longs(
+        bytes,
+        third,
+        call,
+        layout::CALL_MAPPINGS,
+        layout::CALL_MAPPINGS + layout::MAPPING_WIDTH * (answered as usize),
+    )
+}
+
+// From bytes into numbers that are all zero.
+pub fn read_call(
+    bytes: &[u8],
+    sheet: &mut [u32; NUMBERS],
+    call: &mut [u64; layout::CALL],
+    run: &mut [u64; layout::RECORD],
+) -> Place
+    requires { (sheet.old ≡ replicate sheet-length 0) × (call.old ≡ replicate call_length 0) × (run.old ≡ replicate record_length 0) }
+    ensures value { result ≡ place_of (whole-call.read bytes.now 0) }
+    ensures call_stored { CallStored (whole-call.read bytes.now 0) sheet.new call.new run.new }
+{
+    let limits = read_longs(bytes, 0, call, 0, layout::CALL_HAS_RECORD);
+    let Place::At(first) = limits else {
+        return Place::Bad;
+    };
+    let graph = read_sheet(bytes, first, sheet);
+    let Place::At(second) = graph else {
+        return Place::Bad;
+    };
+    read_rest(bytes, second, call, run)
+}

@@ -1,0 +1,312 @@
+// The boundary for hosts in bytes (docs/BYTES.md): sheets, runs and events written and read, and the call.
+#![tactic(auto)]
+
+mod answer;
+mod call;
+mod event;
+pub mod run;
+mod sheet;
+pub mod structs;
+
+ghost use Rattle.std.specs.Prelude.{◌≡◌, ◌≤◌, length};
+ghost use Rattle.laws.specs.Splice.{splice};
+ghost use Rattle.workflow.specs.Layout.{numbers as sheet-length};
+ghost use Rattle.in_bytes.specs.Boundary.{no_item, packed, returned, left, write_sheet, write_run, write_event, read_sheet, read_run, read_event, said, told, decide, decide_on, is_said, said_in, Of64Bits, call_bytes, call_bytes_on};
+ghost use Rattle.in_bytes.specs.BoundaryLaws.{ends_at};
+
+use crate::answer::{answer_size, write_answer};
+use crate::call::{read_call, read_rest};
+use crate::event::event_fits;
+use crate::run::{read_run, run_size, run_tidy, tidy_fits, write_run};
+use crate::sheet::{read_sheet, sheet_size, sheet_tidy, write_sheet};
+use codec::numbers::{Place, longs_size, read_longs, write_longs};
+use host::read::run_fits;
+use host::{kuxhoveza_transition, layout};
+use workflow::layout::NUMBERS;
+
+// Refusals of this crate. Their item is 255.
+const BAD_FORM: u64 = 20;
+
+const BAD_RUN: u64 = 25;
+
+const BAD_BYTES: u64 = 31;
+
+const SHORT: u64 = 32;
+
+const NO_ITEM: u64 = 255;
+
+const HALF: u64 = 0x1_0000_0000;
+
+// What a function returns: a number, and above its 32 bits an item or a size.
+fn packed(number: u64, rest: u64) -> u64
+    ensures { result ≡ packed number rest }
+{
+    number % HALF + HALF * (rest % HALF)
+}
+
+fn refused(number: u64) -> u64
+    ensures { result ≡ packed number no_item }
+{
+    packed(number, NO_ITEM)
+}
+
+fn done(size: usize) -> u64
+    ensures { result ≡ packed 0 size }
+{
+    packed(0, size as u64)
+}
+
+// A receipt of the number form.
+fn receipt(number: u32) -> u64
+    ensures { result ≡ packed number 0 }
+{
+    packed(number as u64, 0)
+}
+
+// What was read ends where the bytes end.
+fn ends(place: Place, bytes: &[u8]) -> bool
+    ensures { result ≡ ends_at (length bytes.now) place }
+{
+    match place {
+        Place::At(next) => next == bytes.len(),
+        Place::Bad => false,
+    }
+}
+
+// A SHEET.
+
+#[unsafe(no_mangle)]
+pub extern "C" fn kuxhoveza_write_sheet(sheet: &[u32], out: &mut [u8]) -> u64
+    ensures value { result ≡ returned (write_sheet sheet.now (length out.old)) }
+    ensures out_after { out.new ≡ left (write_sheet sheet.now (length out.old)) out.old }
+{
+    if sheet.len() != NUMBERS {
+        return receipt(layout::BAD_SHEET_LENGTH);
+    }
+    if !sheet_tidy(sheet) {
+        return refused(BAD_FORM);
+    }
+    let size = sheet_size(sheet);
+    if out.len() < size {
+        return refused(SHORT);
+    }
+    write_sheet(out, sheet);
+    done(size)
+}
+
+fn copy_numbers(out: &mut [u32], xs: &[u32])
+    requires { length xs.now ≤ length out.old }
+    ensures { out.new ≡ splice out.old 0 xs.now }
+{
+    let mut i: usize = 0;
+    while i < xs.len() {
+        out[i] = xs[i];
+        i += 1;
+    }
+}
+
+#[unsafe(no_mangle)]
+pub extern "C" fn kuxhoveza_read_sheet(bytes: &[u8], sheet: &mut [u32]) -> u64
+    ensures value { result ≡ returned (read_sheet bytes.now (length sheet.old)) }
+    ensures sheet_after { sheet.new ≡ left (read_sheet bytes.now (length sheet.old)) sheet.old }
+{
+    if sheet.len() != NUMBERS {
+        return receipt(layout::BAD_SHEET_LENGTH);
+    }
+    let mut numbers = [0u32; NUMBERS];
+    let place = read_sheet(bytes, 0, &mut numbers);
+    if !ends(place, bytes) {
+        return refused(BAD_BYTES);
+    }
+    copy_numbers(sheet, &numbers);
+    done(0)
+}
+
+// A RUN.
+
+#[unsafe(no_mangle)]
+pub extern "C" fn kuxhoveza_write_run(run: &[u64], out: &mut [u8]) -> u64
+    ensures value { result ≡ returned (write_run run.now (length out.old)) }
+    ensures out_after { out.new ≡ left (write_run run.now (length out.old)) out.old }
+{
+    if run.len() != layout::RECORD {
+        return receipt(layout::BAD_RECORD_LENGTH);
+    }
+    if !run_fits(run) {
+        return receipt(layout::BAD_RECORD);
+    }
+    if !run_tidy(run, 0) {
+        return refused(BAD_RUN);
+    }
+    let size = run_size(run, 0);
+    if out.len() < size {
+        return refused(SHORT);
+    }
+    write_run(out, 0, run, 0);
+    done(size)
+}
+
+fn copy_longs(out: &mut [u64], xs: &[u64])
+    requires { length xs.now ≤ length out.old }
+    ensures { out.new ≡ splice out.old 0 xs.now }
+{
+    let mut i: usize = 0;
+    while i < xs.len() {
+        out[i] = xs[i];
+        i += 1;
+    }
+}
+
+#[unsafe(no_mangle)]
+pub extern "C" fn kuxhoveza_read_run(bytes: &[u8], run: &mut [u64]) -> u64
+    ensures value { result ≡ returned (read_run bytes.now (length run.old)) }
+    ensures run_after { run.new ≡ left (read_run bytes.now (length run.old)) run.old }
+{
+    if run.len() != layout::RECORD {
+        return receipt(layout::BAD_RECORD_LENGTH);
+    }
+    let mut numbers = [0u64; layout::RECORD];
+    let place = read_run(bytes, 0, &mut numbers);
+    if !ends(place, bytes) {
+        return refused(BAD_BYTES);
+    }
+    if !tidy_fits(&numbers) {
+        return refused(BAD_BYTES);
+    }
+    copy_longs(run, &numbers);
+    done(0)
+}
+
+// AN EVENT.
+
+#[unsafe(no_mangle)]
+pub extern "C" fn kuxhoveza_write_event(event: &[u64], out: &mut [u8]) -> u64
+    ensures value { result ≡ returned (write_event event.now (length out.old)) }
+    ensures out_after { out.new ≡ left (write_event event.now (length out.old)) out.old }
+{
+    if event.len() != layout::EVENT {
+        return receipt(layout::BAD_CALL_LENGTH);
+    }
+    if !event_fits(event) {
+        return receipt(layout::BAD_CALL);
+    }
+    let size = longs_size(event, 0, layout::EVENT);
+    if out.len() < size {
+        return refused(SHORT);
+    }
+    write_longs(out, 0, event, 0, layout::EVENT);
+    done(size)
+}
+
+#[unsafe(no_mangle)]
+pub extern "C" fn kuxhoveza_read_event(bytes: &[u8], event: &mut [u64]) -> u64
+    ensures value { result ≡ returned (read_event bytes.now (length event.old)) }
+    ensures event_after { event.new ≡ left (read_event bytes.now (length event.old)) event.old }
+{
+    if event.len() != layout::EVENT {
+        return receipt(layout::BAD_CALL_LENGTH);
+    }
+    let mut numbers = [0u64; layout::EVENT];
+    let place = read_longs(bytes, 0, &mut numbers, 0, layout::EVENT);
+    if !ends(place, bytes) {
+        return refused(BAD_BYTES);
+    }
+    if !event_fits(&numbers) {
+        return refused(BAD_BYTES);
+    }
+    copy_longs(event, &numbers);
+    done(0)
+}
+
+// A CALL.
+
+// The answer's numbers; false where the bytes are bad.
+pub fn decide(bytes: &[u8], answer: &mut [u64; layout::ANSWER]) -> bool
+    ensures value { result ≡ is_said (decide bytes.now) }
+    ensures answer_after { answer.new ≡ said_in (decide bytes.now) answer.old }
+    ensures of_64_bits { Of64Bits (decide bytes.now) }
+{
+    let mut sheet = [0u32; NUMBERS];
+    let mut call = [0u64; layout::CALL];
+    let mut run = [0u64; layout::RECORD];
+    let place = read_call(bytes, &mut sheet, &mut call, &mut run);
+    if ends(place, bytes) {
+        let receipt = kuxhoveza_transition(&sheet, NUMBERS, &call, &run, answer);
+        return receipt == layout::WRITTEN;
+    }
+    false
+}
+
+// What is told of an answer's numbers.
+fn answered(answer: &[u64; layout::ANSWER], out: &mut [u8]) -> u64
+    ensures value { result ≡ returned (told (length out.old) (said answer.now)) }
+    ensures out_after { out.new ≡ left (told (length out.old) (said answer.now)) out.old }
+{
+    if answer[layout::ANSWER_KIND] == 3 {
+        return packed(
+            answer[layout::ANSWER_REFUSAL_NUMBER],
+            answer[layout::ANSWER_REFUSAL_ITEM],
+        );
+    }
+    let size = answer_size(answer);
+    if out.len() < size {
+        return refused(SHORT);
+    }
+    write_answer(out, answer);
+    done(size)
+}
+
+#[unsafe(no_mangle)]
+pub extern "C" fn kuxhoveza_call(bytes: &[u8], out: &mut [u8]) -> u64
+    ensures value { result ≡ returned (call_bytes bytes.now (length out.old)) }
+    ensures out_after { out.new ≡ left (call_bytes bytes.now (length out.old)) out.old }
+    ensures of_64_bits { Of64Bits (decide bytes.now) }
+{
+    let mut answer = [0u64; layout::ANSWER];
+    if decide(bytes, &mut answer) {
+        return answered(&answer, out);
+    }
+    refused(BAD_BYTES)
+}
+
+// The same on a sheet in numbers: the bytes are those of a call without its sheet.
+
+fn decide_on(sheet: &[u32; NUMBERS], bytes: &[u8], answer: &mut [u64; layout::ANSWER]) -> bool
+    ensures value { result ≡ is_said (decide_on sheet.now bytes.now) }
+    ensures answer_after { answer.new ≡ said_in (decide_on sheet.now bytes.now) answer.old }
+    ensures of_64_bits { Of64Bits (decide_on sheet.now bytes.now) }
+{
+    let mut call = [0u64; layout::CALL];
+    let mut run = [0u64; layout::RECORD];
+    let limits = read_longs(bytes, 0, &mut call, 0, layout::CALL_HAS_RECORD);
+    let Place::At(next) = limits else {
+        return false;
+    };
+    let place = read_rest(bytes, next, &mut call, &mut run);
+    if ends(place, bytes) {
+        let receipt = kuxhoveza_transition(sheet, NUMBERS, &call, &run, answer);
+        return receipt == layout::WRITTEN;
+    }
+    false
+}
+
+#[unsafe(no_mangle)]
+pub extern "C" fn kuxhoveza_call_on(
+    sheet: &[u32; NUMBERS],
+    sheet_len: usize,
+    bytes: &[u8],
+    out: &mut [u8],
+) -> u64
+    ensures value { result ≡ returned (call_bytes_on sheet.now sheet_len bytes.now (length out.old)) }
+    ensures out_after { out.new ≡ left (call_bytes_on sheet.now sheet_len bytes.now (length out.old)) out.old }
+    ensures of_64_bits { sheet_len ≡ sheet-length → Of64Bits (decide_on sheet.now bytes.now) }
+{
+    if sheet_len != NUMBERS {
+        return receipt(layout::BAD_SHEET_LENGTH);
+    }
+    let mut answer = [0u64; layout::ANSWER];
+    if decide_on(sheet, bytes, &mut answer) {
+        return answered(&answer, out);
+    }
+    refused(BAD_BYTES)
+}
