@@ -20,8 +20,7 @@ use workflow::capped;
 use workflow::layout::{NODE_COUNT, NUMBERS};
 
 // The version of the layout of sheet, call, record, answer and verdict.
-#[unsafe(no_mangle)]
-pub extern "C" fn kuxhoveza_layout_version() -> u32
+pub fn kuxhoveza_layout_version() -> u32
     ensures { result ≡ layout_version }
 {
     layout::LAYOUT_VERSION
@@ -65,8 +64,7 @@ fn by_numbers(call: &[u64], given: &[u64], used: Used) -> u32
 
 // One call. Each array comes with its length. The answer's numbers are written to the buffer's beginning where the result
 // is 0; else the buffer stays as it is.
-#[unsafe(no_mangle)]
-pub extern "C" fn kuxhoveza_transition(
+pub fn kuxhoveza_transition(
     sheet: &[u32; NUMBERS],
     sheet_len: usize,
     call: &[u64],
@@ -105,8 +103,7 @@ fn verdict_numbers(verdict: Verdict) -> [u32; layout::VERDICT]
 }
 
 // The verdict on a sheet: the refusal's number and its item, or 0 and 0.
-#[unsafe(no_mangle)]
-pub extern "C" fn kuxhoveza_verdict(
+pub fn kuxhoveza_verdict(
     sheet: &[u32; NUMBERS],
     sheet_len: usize,
     nodes: u32,

@@ -4,7 +4,7 @@ ghost use Rattle.workflow.specs.Layout.{numbers as sheet-length};
 ghost use Rattle.host.specs.Layout.{record_length, call_length, call_has_record};
 ghost use Rattle.host.specs.Write.{marked};
 ghost use Rattle.codec.specs.Stored.{place_of, Stored, ZeroFrom};
-ghost use Rattle.in_bytes.specs.Call.{given_shape, rest, call as whole-call};
+ghost use Rattle.in_bytes.specs.Call.{given_shape, rest, call as whole_call};
 ghost use Rattle.in_bytes.specs.CallStored.{RestStored, CallStored};
 
 use crate::run::read_run;
@@ -88,8 +88,8 @@ pub fn read_call(
     run: &mut [u64; layout::RECORD],
 ) -> Place
     requires { (sheet.old ≡ replicate sheet-length 0) × (call.old ≡ replicate call_length 0) × (run.old ≡ replicate record_length 0) }
-    ensures value { result ≡ place_of (whole-call.read bytes.now 0) }
-    ensures call_stored { CallStored (whole-call.read bytes.now 0) sheet.new call.new run.new }
+    ensures value { result ≡ place_of (whole_call.read bytes.now 0) }
+    ensures call_stored { CallStored (whole_call.read bytes.now 0) sheet.new call.new run.new }
 {
     let limits = read_longs(bytes, 0, call, 0, layout::CALL_HAS_RECORD);
     let Place::At(first) = limits else {

@@ -75,8 +75,7 @@ fn ends(place: Place, bytes: &[u8]) -> bool
 
 // A SHEET.
 
-#[unsafe(no_mangle)]
-pub extern "C" fn kuxhoveza_write_sheet(sheet: &[u32], out: &mut [u8]) -> u64
+pub fn kuxhoveza_write_sheet(sheet: &[u32], out: &mut [u8]) -> u64
     ensures value { result ≡ returned (write_sheet sheet.now (length out.old)) }
     ensures out_after { out.new ≡ left (write_sheet sheet.now (length out.old)) out.old }
 {
@@ -105,8 +104,7 @@ fn copy_numbers(out: &mut [u32], xs: &[u32])
     }
 }
 
-#[unsafe(no_mangle)]
-pub extern "C" fn kuxhoveza_read_sheet(bytes: &[u8], sheet: &mut [u32]) -> u64
+pub fn kuxhoveza_read_sheet(bytes: &[u8], sheet: &mut [u32]) -> u64
     ensures value { result ≡ returned (read_sheet bytes.now (length sheet.old)) }
     ensures sheet_after { sheet.new ≡ left (read_sheet bytes.now (length sheet.old)) sheet.old }
 {
@@ -124,8 +122,7 @@ pub extern "C" fn kuxhoveza_read_sheet(bytes: &[u8], sheet: &mut [u32]) -> u64
 
 // A RUN.
 
-#[unsafe(no_mangle)]
-pub extern "C" fn kuxhoveza_write_run(run: &[u64], out: &mut [u8]) -> u64
+pub fn kuxhoveza_write_run(run: &[u64], out: &mut [u8]) -> u64
     ensures value { result ≡ returned (write_run run.now (length out.old)) }
     ensures out_after { out.new ≡ left (write_run run.now (length out.old)) out.old }
 {
@@ -157,8 +154,7 @@ fn copy_longs(out: &mut [u64], xs: &[u64])
     }
 }
 
-#[unsafe(no_mangle)]
-pub extern "C" fn kuxhoveza_read_run(bytes: &[u8], run: &mut [u64]) -> u64
+pub fn kuxhoveza_read_run(bytes: &[u8], run: &mut [u64]) -> u64
     ensures value { result ≡ returned (read_run bytes.now (length run.old)) }
     ensures run_after { run.new ≡ left (read_run bytes.now (length run.old)) run.old }
 {
@@ -179,8 +175,7 @@ pub extern "C" fn kuxhoveza_read_run(bytes: &[u8], run: &mut [u64]) -> u64
 
 // AN EVENT.
 
-#[unsafe(no_mangle)]
-pub extern "C" fn kuxhoveza_write_event(event: &[u64], out: &mut [u8]) -> u64
+pub fn kuxhoveza_write_event(event: &[u64], out: &mut [u8]) -> u64
     ensures value { result ≡ returned (write_event event.now (length out.old)) }
     ensures out_after { out.new ≡ left (write_event event.now (length out.old)) out.old }
 {
@@ -198,8 +193,7 @@ pub extern "C" fn kuxhoveza_write_event(event: &[u64], out: &mut [u8]) -> u64
     done(size)
 }
 
-#[unsafe(no_mangle)]
-pub extern "C" fn kuxhoveza_read_event(bytes: &[u8], event: &mut [u64]) -> u64
+pub fn kuxhoveza_read_event(bytes: &[u8], event: &mut [u64]) -> u64
     ensures value { result ≡ returned (read_event bytes.now (length event.old)) }
     ensures event_after { event.new ≡ left (read_event bytes.now (length event.old)) event.old }
 {
@@ -256,8 +250,7 @@ fn answered(answer: &[u64; layout::ANSWER], out: &mut [u8]) -> u64
     done(size)
 }
 
-#[unsafe(no_mangle)]
-pub extern "C" fn kuxhoveza_call(bytes: &[u8], out: &mut [u8]) -> u64
+pub fn kuxhoveza_call(bytes: &[u8], out: &mut [u8]) -> u64
     ensures value { result ≡ returned (call_bytes bytes.now (length out.old)) }
     ensures out_after { out.new ≡ left (call_bytes bytes.now (length out.old)) out.old }
     ensures of_64_bits { Of64Bits (decide bytes.now) }
@@ -290,8 +283,7 @@ fn decide_on(sheet: &[u32; NUMBERS], bytes: &[u8], answer: &mut [u64; layout::AN
     false
 }
 
-#[unsafe(no_mangle)]
-pub extern "C" fn kuxhoveza_call_on(
+pub fn kuxhoveza_call_on(
     sheet: &[u32; NUMBERS],
     sheet_len: usize,
     bytes: &[u8],

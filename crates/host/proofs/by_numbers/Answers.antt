@@ -4,7 +4,7 @@ use borrow.Author.Tests.{eq-eqb, ne_eqb}
 use Rattle.host.proofs.by_numbers.Goals as goal
 
 pub record_fits-requires : goal.record_fits-requires
-record_fits-requires c = 
+record_fits-requires c =
     let h = c.requires in
     (h.1, h.2.past (eq-eqb _ 1 c.if-call-eq1.true))
 

@@ -6,7 +6,7 @@ use Rattle.host.specs.WriteRows.{counted}
 use Rattle.host.proofs.kuxhoveza_transition.Goals as goal
 
 pub returns-then-lengths-ne-WRITTEN : goal.returns-then-lengths-ne-WRITTEN
-returns-then-lengths-ne-WRITTEN c = 
+returns-then-lengths-ne-WRITTEN c =
     let a = c.args in
     let e = c.by_lengths-lengths.ensures in
     let turned = receipt_turned a.sheet_len a.call.now a.given.now _ (λ z. c.if-lengths-ne-WRITTEN.true (e ∙ z)) in
@@ -23,7 +23,7 @@ pub used_rows-used-requires : goal.used_rows-used-requires
 used_rows-used-requires c = ((lent _ _ _ _ (sym c.by_lengths-lengths.ensures ∙ c.if-lengths-ne-WRITTEN.false)).given, omega (arith, c.capped-nodes.ensures))
 
 pub by_numbers-numbers-requires : goal.by_numbers-numbers-requires
-by_numbers-numbers-requires c = 
+by_numbers-numbers-requires c =
     let l = lent _ _ _ _ (sym c.by_lengths-lengths.ensures ∙ c.if-lengths-ne-WRITTEN.false) in
     (l.call, l.given, c.used_rows-used.ensures)
 
@@ -37,7 +37,7 @@ pub write_decision-requires : goal.write_decision-requires
 write_decision-requires c = ((lent _ _ _ _ (sym c.by_lengths-lengths.ensures ∙ c.if-lengths-ne-WRITTEN.false)).roomy, omega (arith, c.capped-nodes.ensures), counted _ c.transition.ensures)
 
 pub returns-then-numbers-eq-WRITTEN : goal.returns-then-numbers-eq-WRITTEN
-returns-then-numbers-eq-WRITTEN c = 
+returns-then-numbers-eq-WRITTEN c =
     let a = c.args in
     let w = a.sheet.now in
     let n = a.sheet_len in
@@ -53,7 +53,7 @@ returns-then-numbers-eq-WRITTEN c =
     }
 
 pub returns-else-numbers-eq-WRITTEN : goal.returns-else-numbers-eq-WRITTEN
-returns-else-numbers-eq-WRITTEN c = 
+returns-else-numbers-eq-WRITTEN c =
     let a = c.args in
     let told = c.by_numbers-numbers.ensures ∙ receipt_read a.sheet_len a.call.now a.given.now _ (sym c.by_lengths-lengths.ensures ∙ c.if-lengths-ne-WRITTEN.false) in
     record {

@@ -4,7 +4,7 @@ use Rattle.host.specs.ByCount.{blank_zeros}
 use Rattle.host.proofs.read.node_rows.Goals as goal
 
 pub returns-then-blank : goal.returns-then-blank
-returns-then-blank c = 
+returns-then-blank c =
     let xs = c.args.xs.now in
     let both = both_of _ _ c.if-blank.true in
     let two = both_of _ _ both.0 in

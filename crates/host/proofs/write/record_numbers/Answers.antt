@@ -12,6 +12,6 @@ pub write_record-requires : goal.write_record-requires
 write_record-requires c = (search rules, omega arith, λ place _ _. getD_replicate_same 0 record_length place)
 
 pub returns : goal.returns
-returns c = 
+returns c =
     let whole : Whole c.args.s = record { signals = search (rules, length_field); visits = search (rules, length_field); streaks = search (rules, length_field); results = search (rules, length_field) } in
     c.write_record.ensures ∙ splice_all _ _ (length_record c.args.s whole)

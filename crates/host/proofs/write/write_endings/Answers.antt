@@ -8,7 +8,7 @@ use Rattle.host.proofs.write.write_endings.Goals as goal
 
 pub loop-i-preserved : goal.loop-i-preserved
 unfolding ending_numbers
-loop-i-preserved c = 
+loop-i-preserved c =
     let inv = c.loop-i.invariant in
     writing_next inv _ (omega arith) c.loop-i-test.true (omega (arith, inv.past.low)) c.write.ensures
 

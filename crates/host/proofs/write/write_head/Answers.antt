@@ -6,7 +6,7 @@ use Rattle.host.proofs.write.write_head.Goals as goal
 
 pub returns : goal.returns
 unfolding head_numbers
-returns c = 
+returns c =
     let w1 = wrote_first c.scalars-first.ensures (length_scalars _) c.write.ensures in
     let w2 = wrote_next w1 c.numbers-kept.ensures (length_kept _) (omega arith) (omega (arith, c.requires)) c.write-2.ensures in
     let w3 = wrote_next w2 c.numbers-ended.ensures (length_output _) (omega arith) (omega (arith, c.requires)) c.write-3.ensures in

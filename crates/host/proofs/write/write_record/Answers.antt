@@ -11,7 +11,7 @@ use Rattle.host.proofs.write.write_record.Goals as goal
 
 pub returns : goal.returns
 unfolding record_numbers
-returns c = 
+returns c =
     let h : Whole c.args.s = record { signals = search (rules, length_field); visits = search (rules, length_field); streaks = search (rules, length_field); results = search (rules, length_field) } in
     let w0 = wrote_none _ c.args.at record_length c.requires.0 c.requires.2 in
     let w1 = wrote_part w0 {m = record_length - record_signals} refl (length_head _) (omega arith) (omega arith) c.write_head.ensures in

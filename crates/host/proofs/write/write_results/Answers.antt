@@ -15,7 +15,7 @@ pub loop-i-init : goal.loop-i-init
 loop-i-init c = writing_start length_result c.loop-k.invariant.long (joined_end c.loop-k.invariant c.rows_of-rows.ensures c.requires.1 c.loop-k-test.false)
 
 pub loop-i-preserved : goal.loop-i-preserved
-loop-i-preserved c = 
+loop-i-preserved c =
     let at = c.args.at in
     let inv = c.loop-i.invariant in
     writing_next inv _ {k = at + result_width * c.loop-i.i} (omega arith) c.loop-i-test.true (omega (arith, inv.past.low))

@@ -14,7 +14,7 @@ loop-i-init c = writing_start length_streak c.loop-k.invariant.long (joined_end 
 
 pub loop-i-preserved : goal.loop-i-preserved
 unfolding streak_numbers
-loop-i-preserved c = 
+loop-i-preserved c =
     let inv = c.loop-i.invariant in
     writing_next inv _ (omega arith) c.loop-i-test.true (omega (arith, inv.past.low)) c.write.ensures
 
