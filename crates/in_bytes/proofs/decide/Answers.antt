@@ -8,21 +8,21 @@ use Rattle.in_bytes.specs.DecideLaws.{says_unread, says_numbers, decide_bad, dec
 use Rattle.in_bytes.proofs.decide.Goals as goal
 
 pub slice_bounds-kuxhoveza_transition-end : goal.slice_bounds-kuxhoveza_transition-end
-slice_bounds-kuxhoveza_transition-end c = 
+slice_bounds-kuxhoveza_transition-end c =
     let bytes = c.args.bytes.now in
     let good : Bytes bytes = record { each = λ n. omega (arith, c.type_inv.bytes n) } in
     let w = is_whole _ (call.read bytes 0) c.read_call-place.ensures.value (sym c.ends.ensures ∙ c.if-ends.true) in
     sym (call_lengths bytes w good c.read_call-place.ensures.call_stored).0
 
 pub slice_bounds-kuxhoveza_transition-end-then-ends : goal.slice_bounds-kuxhoveza_transition-end-then-ends
-slice_bounds-kuxhoveza_transition-end-then-ends c = 
+slice_bounds-kuxhoveza_transition-end-then-ends c =
     let bytes = c.args.bytes.now in
     let good : Bytes bytes = record { each = λ n. omega (arith, c.type_inv.bytes n) } in
     let w = is_whole _ (call.read bytes 0) c.read_call-place.ensures.value (sym c.ends.ensures ∙ c.if-ends.true) in
     sym (call_lengths bytes w good c.read_call-place.ensures.call_stored).1
 
 pub returns-then-ends : goal.returns-then-ends
-returns-then-ends c = 
+returns-then-ends c =
     let bytes = c.args.bytes.now in
     let w = is_whole _ (call.read bytes 0) c.read_call-place.ensures.value (sym c.ends.ensures ∙ c.if-ends.true) in
     let t = c.kuxhoveza_transition-receipt.ensures in
@@ -30,7 +30,7 @@ returns-then-ends c =
     record { value = s.0; answer_after = s.1.0; of_64_bits = s.1.1 }
 
 pub returns : goal.returns
-returns c = 
+returns c =
     let bytes = c.args.bytes.now in
     let b = not_whole _ (call.read bytes 0) c.read_call-place.ensures.value (sym c.ends.ensures ∙ c.if-ends.false) in
     let s = says_unread c.args.answer.now (decide_bad bytes b) in

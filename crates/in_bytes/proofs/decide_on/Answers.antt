@@ -9,21 +9,21 @@ use Rattle.in_bytes.specs.DecideLaws.{ended_bad, says_unread, says_numbers, on_u
 use Rattle.in_bytes.proofs.decide_on.Goals as goal
 
 pub returns-in_default : goal.returns-in_default
-returns-in_default c = 
+returns-in_default c =
     let bytes = c.args.bytes.now in
     let b = on_bad bytes c.read_longs-limits.ensures.value c.in_default.is in
     let s = says_unread c.args.answer.now (on_unread bytes c.args.sheet.now (ended_bad _ b)) in
     record { value = s.0; answer_after = s.1.0; of_64_bits = s.1.1 }
 
 pub read_rest-place-requires : goal.read_rest-place-requires
-read_rest-place-requires c = 
+read_rest-place-requires c =
     let bytes = c.args.bytes.now in
     let good : Bytes bytes = record { each = λ n. omega (arith, c.type_inv.bytes n) } in
     let i = limited c.read_longs-limits.ensures.value c.in-At.is c.read_longs-limits.ensures.stored refl good in
     (limits_blank i, refl)
 
 pub slice_bounds-kuxhoveza_transition-end : goal.slice_bounds-kuxhoveza_transition-end
-slice_bounds-kuxhoveza_transition-end c = 
+slice_bounds-kuxhoveza_transition-end c =
     let bytes = c.args.bytes.now in
     let good : Bytes bytes = record { each = λ n. omega (arith, c.type_inv.bytes n) } in
     let i = limited c.read_longs-limits.ensures.value c.in-At.is c.read_longs-limits.ensures.stored refl good in
@@ -32,7 +32,7 @@ slice_bounds-kuxhoveza_transition-end c =
     sym (on_lengths bytes w good o.1).0
 
 pub slice_bounds-kuxhoveza_transition-end-then-ends : goal.slice_bounds-kuxhoveza_transition-end-then-ends
-slice_bounds-kuxhoveza_transition-end-then-ends c = 
+slice_bounds-kuxhoveza_transition-end-then-ends c =
     let bytes = c.args.bytes.now in
     let good : Bytes bytes = record { each = λ n. omega (arith, c.type_inv.bytes n) } in
     let i = limited c.read_longs-limits.ensures.value c.in-At.is c.read_longs-limits.ensures.stored refl good in
@@ -41,7 +41,7 @@ slice_bounds-kuxhoveza_transition-end-then-ends c =
     sym (on_lengths bytes w good o.1).1
 
 pub returns-then-ends : goal.returns-then-ends
-returns-then-ends c = 
+returns-then-ends c =
     let bytes = c.args.bytes.now in
     let good : Bytes bytes = record { each = λ n. omega (arith, c.type_inv.bytes n) } in
     let i = limited c.read_longs-limits.ensures.value c.in-At.is c.read_longs-limits.ensures.stored refl good in
@@ -52,7 +52,7 @@ returns-then-ends c =
     record { value = s.0; answer_after = s.1.0; of_64_bits = s.1.1 }
 
 pub returns : goal.returns
-returns c = 
+returns c =
     let bytes = c.args.bytes.now in
     let good : Bytes bytes = record { each = λ n. omega (arith, c.type_inv.bytes n) } in
     let i = limited c.read_longs-limits.ensures.value c.in-At.is c.read_longs-limits.ensures.stored refl good in

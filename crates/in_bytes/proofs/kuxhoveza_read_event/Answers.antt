@@ -13,13 +13,13 @@ use Rattle.std.proofs.lemmas.Bool.{not_from_true, not_from_false}
 use Rattle.in_bytes.proofs.kuxhoveza_read_event.Goals as goal
 
 pub returns-then-event-ne-EVENT : goal.returns-then-event-ne-EVENT
-returns-then-event-ne-EVENT c = 
+returns-then-event-ne-EVENT c =
     let a = c.args in
     let b = refused_by a.event.now (event_room a.bytes.now _ c.if-event-ne-EVENT.true) in
     record { value = c.receipt.ensures ∙ b.0; event_after = b.1 }
 
 pub returns-then-not-ends : goal.returns-then-not-ends
-returns-then-not-ends c = 
+returns-then-not-ends c =
     let a = c.args in
     let bytes = a.bytes.now in
     let f = sym c.ends.ensures ∙ not-true _ (not_from_false _ c.if-not-ends.true) in
@@ -29,7 +29,7 @@ returns-then-not-ends c =
     record { value = c.refused.ensures ∙ b.0; event_after = b.1 }
 
 pub returns-then-not-event_fits : goal.returns-then-not-event_fits
-returns-then-not-event_fits c = 
+returns-then-not-event_fits c =
     let a = c.args in
     let bytes = a.bytes.now in
     let good : Bytes bytes = record { each = λ n. omega (arith, c.type_inv.bytes n) } in
@@ -43,7 +43,7 @@ returns-then-not-event_fits c =
     record { value = c.refused-then-not-event_fits.ensures ∙ b.0; event_after = b.1 }
 
 pub returns : goal.returns
-returns c = 
+returns c =
     let a = c.args in
     let bytes = a.bytes.now in
     let good : Bytes bytes = record { each = λ n. omega (arith, c.type_inv.bytes n) } in

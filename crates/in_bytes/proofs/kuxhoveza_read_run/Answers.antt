@@ -13,13 +13,13 @@ use Rattle.std.proofs.lemmas.Bool.{not_from_true, not_from_false}
 use Rattle.in_bytes.proofs.kuxhoveza_read_run.Goals as goal
 
 pub returns-then-run-ne-RECORD : goal.returns-then-run-ne-RECORD
-returns-then-run-ne-RECORD c = 
+returns-then-run-ne-RECORD c =
     let a = c.args in
     let b = refused_by a.run.now (run_room a.bytes.now _ c.if-run-ne-RECORD.true) in
     record { value = c.receipt.ensures ∙ b.0; run_after = b.1 }
 
 pub returns-then-not-ends : goal.returns-then-not-ends
-returns-then-not-ends c = 
+returns-then-not-ends c =
     let a = c.args in
     let bytes = a.bytes.now in
     let f = sym c.ends.ensures ∙ not-true _ (not_from_false _ c.if-not-ends.true) in
@@ -28,7 +28,7 @@ returns-then-not-ends c =
     record { value = c.refused.ensures ∙ b.0; run_after = b.1 }
 
 pub tidy_fits-requires : goal.tidy_fits-requires
-tidy_fits-requires c = 
+tidy_fits-requires c =
     let bytes = c.args.bytes.now in
     let good : Bytes bytes = record { each = λ n. omega (arith, c.type_inv.bytes n) } in
     let f = sym c.ends.ensures ∙ not-false _ (not_from_true _ c.if-not-ends.false) in
@@ -37,7 +37,7 @@ tidy_fits-requires c =
     (stored.long, tidy_read run run_exact bytes _ _ w good (sym run_width) stored)
 
 pub returns-then-not-tidy_fits : goal.returns-then-not-tidy_fits
-returns-then-not-tidy_fits c = 
+returns-then-not-tidy_fits c =
     let a = c.args in
     let bytes = a.bytes.now in
     let good : Bytes bytes = record { each = λ n. omega (arith, c.type_inv.bytes n) } in
@@ -50,7 +50,7 @@ returns-then-not-tidy_fits c =
     record { value = c.refused-then-not-tidy_fits.ensures ∙ b.0; run_after = b.1 }
 
 pub returns : goal.returns
-returns c = 
+returns c =
     let a = c.args in
     let bytes = a.bytes.now in
     let good : Bytes bytes = record { each = λ n. omega (arith, c.type_inv.bytes n) } in

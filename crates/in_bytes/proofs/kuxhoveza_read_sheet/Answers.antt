@@ -12,13 +12,13 @@ use Rattle.std.proofs.lemmas.Bool.{not_from_true, not_from_false}
 use Rattle.in_bytes.proofs.kuxhoveza_read_sheet.Goals as goal
 
 pub returns-then-sheet-ne-NUMBERS : goal.returns-then-sheet-ne-NUMBERS
-returns-then-sheet-ne-NUMBERS c = 
+returns-then-sheet-ne-NUMBERS c =
     let a = c.args in
     let b = refused_by a.sheet.now (sheet_room a.bytes.now _ c.if-sheet-ne-NUMBERS.true) in
     record { value = c.receipt.ensures ∙ b.0; sheet_after = b.1 }
 
 pub returns-then-not-ends : goal.returns-then-not-ends
-returns-then-not-ends c = 
+returns-then-not-ends c =
     let a = c.args in
     let bytes = a.bytes.now in
     let f = sym c.ends.ensures ∙ not-true _ (not_from_false _ c.if-not-ends.true) in
@@ -27,7 +27,7 @@ returns-then-not-ends c =
     record { value = c.refused.ensures ∙ b.0; sheet_after = b.1 }
 
 pub returns : goal.returns
-returns c = 
+returns c =
     let a = c.args in
     let bytes = a.bytes.now in
     let good : Bytes bytes = record { each = λ n. omega (arith, c.type_inv.bytes n) } in

@@ -11,13 +11,13 @@ use Rattle.std.proofs.lemmas.Bool.{not_from_true, not_from_false}
 use Rattle.in_bytes.proofs.kuxhoveza_write_event.Goals as goal
 
 pub returns-then-event-ne-EVENT : goal.returns-then-event-ne-EVENT
-returns-then-event-ne-EVENT c = 
+returns-then-event-ne-EVENT c =
     let a = c.args in
     let o = refused_by a.out.now (event_other a.event.now _ c.if-event-ne-EVENT.true) in
     record { value = c.receipt.ensures ∙ o.0; out_after = o.1 }
 
 pub returns-then-not-event_fits : goal.returns-then-not-event_fits
-returns-then-not-event_fits c = 
+returns-then-not-event_fits c =
     let a = c.args in
     let o = refused_by a.out.now (event_unfit a.event.now _ c.if-event-ne-EVENT.false (sym c.event_fits.ensures ∙ not-true _ (not_from_false _ c.if-not-event_fits.true))) in
     record { value = c.receipt-then-not-event_fits.ensures ∙ o.0; out_after = o.1 }
@@ -26,7 +26,7 @@ pub longs_size-size-requires : goal.longs_size-size-requires
 longs_size-size-requires c = let n = c.if-event-ne-EVENT.false in (omega arith, omega arith, omega arith)
 
 pub returns-then-out-size : goal.returns-then-out-size
-returns-then-out-size c = 
+returns-then-out-size c =
     let a = c.args in
     let n = c.if-event-ne-EVENT.false in
     let s = c.longs_size-size.ensures ∙ ap (λ (x : List ℕ). length (bytes_of x)) (part_all a.event.now n) in
@@ -35,14 +35,14 @@ returns-then-out-size c =
     record { value = c.refused.ensures ∙ o.0; out_after = o.1 }
 
 pub write_longs-requires : goal.write_longs-requires
-write_longs-requires c = 
+write_longs-requires c =
     let n = c.if-event-ne-EVENT.false in
     let s = c.longs_size-size.ensures in
     let l = c.if-out-size.false in
     (omega arith, omega arith, omega arith)
 
 pub returns : goal.returns
-returns c = 
+returns c =
     let a = c.args in
     let n = c.if-event-ne-EVENT.false in
     let p = part_all a.event.now n in

@@ -12,13 +12,13 @@ use Rattle.std.proofs.lemmas.Bool.{not_from_true, not_from_false}
 use Rattle.in_bytes.proofs.kuxhoveza_write_run.Goals as goal
 
 pub returns-then-run-ne-RECORD : goal.returns-then-run-ne-RECORD
-returns-then-run-ne-RECORD c = 
+returns-then-run-ne-RECORD c =
     let a = c.args in
     let o = refused_by a.out.now (run_other a.run.now _ c.if-run-ne-RECORD.true) in
     record { value = c.receipt.ensures ∙ o.0; out_after = o.1 }
 
 pub returns-then-not-run_fits : goal.returns-then-not-run_fits
-returns-then-not-run_fits c = 
+returns-then-not-run_fits c =
     let a = c.args in
     let o = refused_by a.out.now (run_unfit a.run.now _ c.if-run-ne-RECORD.false (sym c.run_fits.ensures ∙ not-true _ (not_from_false _ c.if-not-run_fits.true))) in
     record { value = c.receipt-then-not-run_fits.ensures ∙ o.0; out_after = o.1 }
@@ -27,7 +27,7 @@ pub run_tidy-requires : goal.run_tidy-requires
 run_tidy-requires c = let e = c.if-run-ne-RECORD.false in omega arith
 
 pub returns-then-not-run_tidy : goal.returns-then-not-run_tidy
-returns-then-not-run_tidy c = 
+returns-then-not-run_tidy c =
     let a = c.args in
     let n = c.if-run-ne-RECORD.false in
     let t = sym (ap run.tidy (part_all a.run.now n)) ∙ sym c.run_tidy.ensures ∙ not-true _ (not_from_false _ c.if-not-run_tidy.true) in
@@ -38,7 +38,7 @@ pub run_size-size-requires : goal.run_size-size-requires
 run_size-size-requires c = let e = c.if-run-ne-RECORD.false in (omega arith, omega arith)
 
 pub returns-then-out-size : goal.returns-then-out-size
-returns-then-out-size c = 
+returns-then-out-size c =
     let a = c.args in
     let n = c.if-run-ne-RECORD.false in
     let p = part_all a.run.now n in
@@ -49,14 +49,14 @@ returns-then-out-size c =
     record { value = c.refused-then-out-size.ensures ∙ o.0; out_after = o.1 }
 
 pub write_run-requires : goal.write_run-requires
-write_run-requires c = 
+write_run-requires c =
     let e = c.if-run-ne-RECORD.false in
     let s = c.run_size-size.ensures in
     let l = c.if-out-size.false in
     (omega arith, omega arith)
 
 pub returns : goal.returns
-returns c = 
+returns c =
     let a = c.args in
     let n = c.if-run-ne-RECORD.false in
     let p = part_all a.run.now n in

@@ -6,7 +6,7 @@ use Rattle.in_bytes.specs.AnswerLaws.{both_sizes, head_few, answer_bytes}
 use Rattle.in_bytes.proofs.answer.answer_size.Goals as goal
 
 pub overflow_add-result : goal.overflow_add-result
-overflow_add-result c = 
+overflow_add-result c =
     let ns = c.args.xs.now in
     omega (arith, c.run_size.ensures, c.head_size.ensures, head_few ns, run_few ns answer_record (search rules))
 

@@ -10,6 +10,6 @@ pub write_run-requires : goal.write_run-requires
 write_run-requires c = (search rules, omega (arith, c.requires, both_sizes (answer_bytes c.args.xs.now (search rules)), c.write_head-place.ensures.value))
 
 pub returns : goal.returns
-returns c = 
+returns c =
     let head = c.write_head-place.ensures in
     both_written (answer_bytes c.args.xs.now (search rules)) c.args.out.now c.requires head.value head.out_after c.write_run.ensures.out_after

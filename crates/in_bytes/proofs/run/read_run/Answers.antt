@@ -7,13 +7,13 @@ use Rattle.in_bytes.specs.RunLaws.{head_exact, visits_exact, streaks_exact, resu
 use Rattle.in_bytes.proofs.run.read_run.Goals as goal
 
 pub returns-in_default : goal.returns-in_default
-returns-in_default c = 
+returns-in_default c =
     let i0 = run_start c.args.bytes.now c.args.r.now c.args.start c.requires in
     let o = numbers_bad head_exact i0 c.read_longs-head.ensures.value c.in_default.is in
     record { value = bad_place o; stored = bad_stored o (c.read_longs-head.ensures.stored.long ∙ stages_long i0) }
 
 pub returns-then-stored-gt-CAPACITY : goal.returns-then-stored-gt-CAPACITY
-returns-then-stored-gt-CAPACITY c = 
+returns-then-stored-gt-CAPACITY c =
     let good : Bytes c.args.bytes.now = record { each = λ n. omega (arith, c.type_inv.bytes n) } in
     let i0 = run_start c.args.bytes.now c.args.r.now c.args.start c.requires in
     let i1 = numbers_more head_exact i0 c.read_longs-head.ensures.value good c.in-At.is c.read_longs-head.ensures.stored in
@@ -21,7 +21,7 @@ returns-then-stored-gt-CAPACITY c =
     record { value = bad_place o; stored = bad_stored o (stages_long i1) }
 
 pub returns-in_default-signals : goal.returns-in_default-signals
-returns-in_default-signals c = 
+returns-in_default-signals c =
     let good : Bytes c.args.bytes.now = record { each = λ n. omega (arith, c.type_inv.bytes n) } in
     let i0 = run_start c.args.bytes.now c.args.r.now c.args.start c.requires in
     let i1 = numbers_more head_exact i0 c.read_longs-head.ensures.value good c.in-At.is c.read_longs-head.ensures.stored in
@@ -29,7 +29,7 @@ returns-in_default-signals c =
     record { value = bad_place o; stored = bad_stored o (c.read_longs-signals.ensures.stored.long ∙ stages_long i1) }
 
 pub returns-in_default-visits : goal.returns-in_default-visits
-returns-in_default-visits c = 
+returns-in_default-visits c =
     let good : Bytes c.args.bytes.now = record { each = λ n. omega (arith, c.type_inv.bytes n) } in
     let i0 = run_start c.args.bytes.now c.args.r.now c.args.start c.requires in
     let i1 = numbers_more head_exact i0 c.read_longs-head.ensures.value good c.in-At.is c.read_longs-head.ensures.stored in
@@ -38,7 +38,7 @@ returns-in_default-visits c =
     record { value = bad_place o; stored = bad_stored o (c.read_longs-visits.ensures.stored.long ∙ stages_long i2) }
 
 pub read_slots-streaks-requires : goal.read_slots-streaks-requires
-read_slots-streaks-requires c = 
+read_slots-streaks-requires c =
     let good : Bytes c.args.bytes.now = record { each = λ n. omega (arith, c.type_inv.bytes n) } in
     let i0 = run_start c.args.bytes.now c.args.r.now c.args.start c.requires in
     let i1 = numbers_more head_exact i0 c.read_longs-head.ensures.value good c.in-At.is c.read_longs-head.ensures.stored in
@@ -47,7 +47,7 @@ read_slots-streaks-requires c =
     (stage_room streaks_exact i3, i3.reading.blank)
 
 pub returns-in_default-streaks : goal.returns-in_default-streaks
-returns-in_default-streaks c = 
+returns-in_default-streaks c =
     let good : Bytes c.args.bytes.now = record { each = λ n. omega (arith, c.type_inv.bytes n) } in
     let i0 = run_start c.args.bytes.now c.args.r.now c.args.start c.requires in
     let i1 = numbers_more head_exact i0 c.read_longs-head.ensures.value good c.in-At.is c.read_longs-head.ensures.stored in
@@ -57,7 +57,7 @@ returns-in_default-streaks c =
     record { value = bad_place o; stored = bad_stored o (c.read_slots-streaks.ensures.stored.long ∙ stages_long i3) }
 
 pub read_slots-requires : goal.read_slots-requires
-read_slots-requires c = 
+read_slots-requires c =
     let good : Bytes c.args.bytes.now = record { each = λ n. omega (arith, c.type_inv.bytes n) } in
     let i0 = run_start c.args.bytes.now c.args.r.now c.args.start c.requires in
     let i1 = numbers_more head_exact i0 c.read_longs-head.ensures.value good c.in-At.is c.read_longs-head.ensures.stored in
@@ -67,7 +67,7 @@ read_slots-requires c =
     (stage_room results_exact i4, i4.reading.blank)
 
 pub returns : goal.returns
-returns c = 
+returns c =
     let good : Bytes c.args.bytes.now = record { each = λ n. omega (arith, c.type_inv.bytes n) } in
     let i0 = run_start c.args.bytes.now c.args.r.now c.args.start c.requires in
     let i1 = numbers_more head_exact i0 c.read_longs-head.ensures.value good c.in-At.is c.read_longs-head.ensures.stored in

@@ -1,4 +1,3 @@
-use Prim.Native.Nat.{◌-◌}
 use Rattle.host.specs.ByCount.{NodesPast}
 use Rattle.in_bytes.proofs.run.used_nodes.Given as goal
 

@@ -5,14 +5,14 @@ use Rattle.in_bytes.specs.RunLaws.{run_first, visits_first, streaks_first, resul
 use Rattle.in_bytes.proofs.run.write_run.Goals as goal
 
 pub write_longs-first-requires : goal.write_longs-first-requires
-write_longs-first-requires c = 
+write_longs-first-requires c =
     let xs = c.args.xs.now in
     let at = c.args.at in
     let f = run_first xs at c.requires.0 c.stored_end.ensures in
     (omega arith, omega (arith, c.stored_end.ensures, c.requires.0), writing_room (writing_start {list = c.args.out.now} refl c.requires.1) f)
 
 pub write_longs-second-requires : goal.write_longs-second-requires
-write_longs-second-requires c = 
+write_longs-second-requires c =
     let xs = c.args.xs.now in
     let at = c.args.at in
     let f = run_first xs at c.requires.0 c.stored_end.ensures in
@@ -20,7 +20,7 @@ write_longs-second-requires c =
     (omega arith, omega (arith, c.requires.0), writing_room w1 (visits_first xs at c.requires.0))
 
 pub write_slots-third-requires : goal.write_slots-third-requires
-write_slots-third-requires c = 
+write_slots-third-requires c =
     let xs = c.args.xs.now in
     let at = c.args.at in
     let f = run_first xs at c.requires.0 c.stored_end.ensures in
@@ -29,7 +29,7 @@ write_slots-third-requires c =
     record { k_in_bounds = omega (arith, c.requires.0); k_in_bounds_2 = writing_room w2 (streaks_first xs at c.requires.0) }
 
 pub write_slots-requires : goal.write_slots-requires
-write_slots-requires c = 
+write_slots-requires c =
     let xs = c.args.xs.now in
     let at = c.args.at in
     let f = run_first xs at c.requires.0 c.stored_end.ensures in
@@ -39,7 +39,7 @@ write_slots-requires c =
     record { k_in_bounds = omega (arith, c.requires.0); k_in_bounds_2 = writing_room w3 (results_first xs at c.requires.0) }
 
 pub returns : goal.returns
-returns c = 
+returns c =
     let xs = c.args.xs.now in
     let at = c.args.at in
     let f = run_first xs at c.requires.0 c.stored_end.ensures in

@@ -6,12 +6,12 @@ use Rattle.in_bytes.proofs.sheet.sheet_size.Goals as goal
 
 pub columns_size-requires : goal.columns_size-requires
 unfolding total
-columns_size-requires c = 
+columns_size-requires c =
     let l = c.requires.0 in
     record { rooms_in_bounds = (omega (arith, l), omega (arith, l), search rules); rooms_value = columns_tidy c.args.w.now l c.used-used.ensures c.requires.1 }
 
 pub overflow_add-result : goal.overflow_add-result
-overflow_add-result c = 
+overflow_add-result c =
     let w = c.args.w.now in
     let l = c.requires.0 in
     omega (arith, sheet_size w l c.used-used.ensures, sheet_few w l, c.columns_size.ensures, c.numbers_size.ensures)

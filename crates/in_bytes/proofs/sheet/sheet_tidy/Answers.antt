@@ -9,4 +9,4 @@ unfolding total
 columns_tidy-requires c = (omega (arith, c.requires), search rules)
 
 pub returns : goal.returns
-returns c = rw c.columns_tidy.ensures (tidy_columns c.args.w.now c.requires c.used-used.ensures (λ n. omega (arith, c.type_inv.bytes n)))
+returns c = rw c.columns_tidy.ensures (tidy_columns c.args.w.now c.requires c.used-used.ensures (λ n. omega (arith, c.type_inv.w n)))

@@ -5,7 +5,7 @@ use Rattle.in_bytes.specs.StructsLaws.{event_written}
 use Rattle.in_bytes.proofs.structs.write_event.Goals as goal
 
 pub returns : goal.returns
-returns c = 
+returns c =
     let a = c.args in
     let e = event_written a.event (length a.out.now) c.event_numbers-numbers.ensures in
     let r = c.kuxhoveza_write_event.ensures in

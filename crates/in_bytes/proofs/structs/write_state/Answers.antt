@@ -8,7 +8,7 @@ use Rattle.in_bytes.specs.StructsLaws.{state_written}
 use Rattle.in_bytes.proofs.structs.write_state.Goals as goal
 
 pub returns : goal.returns
-returns c = 
+returns c =
     let a = c.args in
     let whole : Whole a.state = record { signals = search (rules, length_field); visits = search (rules, length_field); streaks = search (rules, length_field); results = search (rules, length_field) } in
     let e = state_written a.state whole (length a.out.now) c.record_numbers-numbers.ensures in
