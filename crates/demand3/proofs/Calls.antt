@@ -1,17 +1,14 @@
 -- A list of calls of the code is the list of the definition, so demand 3 speaks of the code.
-use Rattle.std.specs.Prelude.{◌≡◌, refl, Bool, List, [], ◌∷◌, ◌++◌, map, length, take}
+use Rattle.std.specs.Prelude.{◌≡◌, refl, List, [], ◌∷◌, ◌++◌, map, length, take}
 use Rattle.std.proofs.Common.{sym, ap, subst}
 use Rattle.laws.specs.Listing.{padded}
 use Rattle.workflow.specs.View.{Workflow}
-use Rattle.model.specs.declared.State.{State}
-use Rattle.model.specs.declared.answer.Answer as code
-use Rattle.kernel.specs.declared.Decision.{Decision}
 use Rattle.kernel.specs.declared.Call.{Call}
 use Rattle.kernel.specs.Call.{Answer, next, wants, refused, given_record, transition}
 use Rattle.kernel.specs.Decision.{decision_of}
-use Rattle.demand3.specs.Demand3.{Entry, standing, next_entry, history, Demand3}
+use Rattle.demand3.specs.Demand3.{Entry, next_entry, history, Demand3}
 use Rattle.demand3.proofs.Holds.{holds}
-use Rattle.demand3.specs.Calls.{Made, read, entry, Follows, Ran, calls}
+use Rattle.demand3.specs.Calls.{Made, read, entry, Ran, calls}
 
 take_front : {A : Type 0} (xs ys : List A) → take (length xs) (xs ++ ys) ≡ xs
 take_front [] ys = refl

@@ -1,19 +1,12 @@
 -- The table of Joint A holds: it is computed.
-use Rattle.std.specs.Prelude.{◌≡◌, refl, Bool, true, false, List, [], ◌∷◌, ◌++◌, map, ℕ, ◌+◌, ◌-◌, ◌^◌, get_or, replicate}
+use Rattle.std.specs.Prelude.{refl}
 use Rattle.std.proofs.Common.{sym, subst}
 use Rattle.std.proofs.Math.Path.{fun_ext}
-use Rattle.workflow.specs.View.{Workflow, workflow}
+use Rattle.workflow.specs.View.{workflow}
 use Rattle.joint_a.specs.Sheet.{numbers}
 use Rattle.joint_a.specs.SheetLaws.{sheet, is_sheet}
-use Rattle.model.specs.declared.BufferedSignal.{BufferedSignal}
-use Rattle.model.specs.declared.event.Event.{Event}
-use Rattle.model.specs.declared.answer.Note.{Note}
-use Rattle.model.specs.declared.answer.Ending.{Ending}
-use Rattle.model.specs.Record.{no_node_result, streak_of, set_signals}
 use Rattle.model.specs.Answers.{output_numbers, kept_numbers, params_numbers, order_numbers}
-use Rattle.kernel.specs.declared.Call.{Call}
-use Rattle.kernel.specs.Call.{Answer, next, wants, refused, Last, no_record, last}
-use Rattle.demand3.specs.Demand3.{Entry, standing, history, dated}
+use Rattle.demand3.specs.Demand3.{standing, history}
 use Rattle.laws.specs.Bool.{if◌then◌else◌, ◌and◌, ◌or◌}
 use Rattle.laws.specs.Rows.{rows, span}
 use Rattle.laws.specs.First.{first}

@@ -31,16 +31,15 @@ use Rattle.machine.specs.Events.{apply}
 use Rattle.kernel.specs.Code.{event_unfit, out_of_sequence, not_started, started_before, inconsistent, microsteps_exceeded, commands_exceeded, operations_exceeded}
 use Rattle.kernel.specs.Drive.{Machine, started, driven}
 use Rattle.kernel.specs.declared.Call.{Call}
-use Rattle.kernel.specs.Call.{Answer, next, wants, refused, Last, no_record, last, is_start, start_stage, next_stage, record_stage, admission, given, finish_by, transition_by, transition}
+use Rattle.kernel.specs.Call.{refused, Last, no_record, last, is_start, start_stage, next_stage, record_stage, admission, given, finish_by, transition_by, transition}
 use Rattle.demand3.specs.Steps.{steps, begun_by, begun}
 use Rattle.demand3.proofs.StepsLaws.{few_steps, counts_steps}
-use Rattle.demand3.specs.Demand3.{Reports, Not26}
 use Rattle.demand3.proofs.Tidy as Tidy
 use Rattle.demand3.specs.Tidy.{Sized}
 use Rattle.demand3.proofs.Keep.{Owner}
 use Rattle.demand3.proofs.Driver.{Checks, checked_driven}
 use Rattle.demand3.proofs.Closed.{none_left_empty, checked_none_left, closes}
-use Rattle.demand3.specs.Single.{Proper, Single, SizedLast}
+use Rattle.demand3.specs.Single.{Single, SizedLast}
 
 -- BEFORE THE STEP. What an admitted call has.
 pub record Admitted (f : Workflow) (r : Last) (c : Call) : Type 0 where

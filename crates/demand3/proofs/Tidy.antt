@@ -39,8 +39,8 @@ use Rattle.model.specs.Record.{no_visits, no_streak, no_node_result, no_invocati
 use Rattle.model.specs.Store.{listed, removed, appended, leaves_over, signals_fit}
 use Rattle.model.specs.Step.{still, position, one_more_visit, phased, arrival, terminate, evaluate, schedule, enter_activity, enter_await, enter_complete, arrive, enter, follow_to, follow, route_limited, route, signal_outcome, take_by, take as take_signal, retry}
 use Rattle.machine.specs.Events.{named, applies, not_applicable, complete_invocation, stick, fail_invocation, on_signal, on_success, on_failure, on_unknown, on_result, resolve_as_complete, resolve_as_fail, on_resolved, on_ended, react}
-use Rattle.snapshot.specs.Check.{result_unused, result_zero, result_fits, streak_zero, streak_fits, slot_fits, slots_fit, counters_fit, keeps_error, is_no_invocation, result_of_status, phase_fits, waits, works, stands, consistent}
-use Rattle.model.specs.StoreLaws.{Slotted, appended_room, slotted_appended, fits_appended, removed_at, slotted_removed, fits_removed, fits_few}
+use Rattle.snapshot.specs.Check.{result_unused, result_fits, streak_fits, slot_fits, slots_fit, counters_fit, keeps_error, is_no_invocation, result_of_status, phase_fits, waits, works, stands, consistent}
+use Rattle.model.specs.StoreLaws.{appended_room, slotted_appended, fits_appended, removed_at, slotted_removed, fits_removed, fits_few}
 use Rattle.demand3.specs.Tidy.{Stores, visits_fit, its_result_fits, its_streak_fits, Sized, Tidies}
 
 -- SMALL CASES

@@ -1,7 +1,5 @@
 -- A list of calls of the code, read as a list of the definition.
-use Rattle.std.specs.Prelude.{◌≡◌, refl, Bool, List, [], ◌∷◌, ◌++◌, map, length, take}
-use Rattle.std.proofs.Common.{sym, ap, subst}
-use Rattle.laws.specs.Listing.{padded}
+use Rattle.std.specs.Prelude.{◌≡◌, Bool, List, [], ◌∷◌, ◌++◌, map, take}
 use Rattle.workflow.specs.View.{Workflow}
 use Rattle.model.specs.declared.State.{State}
 use Rattle.model.specs.declared.answer.Answer as code
@@ -9,7 +7,7 @@ use Rattle.kernel.specs.declared.Decision.{Decision}
 use Rattle.kernel.specs.declared.Call.{Call}
 use Rattle.kernel.specs.Call.{Answer, next, wants, refused, given_record, transition}
 use Rattle.kernel.specs.Decision.{decision_of}
-use Rattle.demand3.specs.Demand3.{Entry, standing, next_entry, history, Demand3}
+use Rattle.demand3.specs.Demand3.{Entry, standing}
 
 -- One call of the code: the arguments of `transition` beside the sheet, and what it returned.
 pub record Made : Type 0 where

@@ -1,38 +1,16 @@
 -- Joint A of document 01: its twelve cases, and those of document 02, as one computed table over the definition of the call.
-use Rattle.std.specs.Prelude.{◌≡◌, refl, Bool, true, false, List, [], ◌∷◌, ◌++◌, map, ℕ, ◌+◌, ◌-◌, ◌^◌, get_or, replicate}
-use Rattle.std.proofs.Common.{sym, subst}
-use Rattle.std.proofs.Math.Path.{fun_ext}
-use Rattle.workflow.specs.View.{Workflow, workflow}
-use Rattle.joint_a.specs.Sheet.{numbers}
-use Rattle.joint_a.specs.SheetLaws.{sheet, is_sheet}
+use Rattle.std.specs.Prelude.{◌≡◌, Bool, true, false, List, [], ◌∷◌, ◌++◌, map, ℕ, ◌+◌, ◌-◌, ◌^◌, get_or, replicate}
+use Rattle.workflow.specs.View.{Workflow}
 use Rattle.model.specs.declared.BufferedSignal.{BufferedSignal}
 use Rattle.model.specs.declared.event.Event.{Event}
 use Rattle.model.specs.declared.answer.Note.{Note}
 use Rattle.model.specs.declared.answer.Ending.{Ending}
 use Rattle.model.specs.Record.{no_node_result, streak_of, set_signals}
-use Rattle.model.specs.Answers.{output_numbers, kept_numbers, params_numbers, order_numbers}
+use Rattle.model.specs.Answers.{output_numbers, kept_numbers, order_numbers}
 use Rattle.kernel.specs.declared.Call.{Call}
-use Rattle.kernel.specs.Call.{Answer, next, wants, refused, Last, no_record, last}
+use Rattle.kernel.specs.Call.{Answer, next, wants, refused, Last, no_record, last, transition}
 use Rattle.demand3.specs.Demand3.{Entry, standing, history, dated}
-use Rattle.laws.specs.Bool.{if◌then◌else◌, ◌and◌, ◌or◌}
-use Rattle.laws.specs.Rows.{rows, span}
-use Rattle.laws.specs.First.{first}
-use Rattle.laws.specs.Every.{every}
-use Rattle.laws.specs.Shift.{remove_at, without}
-use Rattle.laws.specs.Settle.{settle}
-use Rattle.workflow.specs.Lookup.{node_of, policy_of, are, route_of, limit_of, declares}
-use Rattle.graph.specs.Form.{formed_node, formed_route, formed_limit, formed_declared, chained_from, chained, ascends, form}
-use Rattle.graph.specs.Rules.{reserved, declared_twice, breaks_7, unrouted, extra, leads_nowhere, breaks_8, breaks_9, bad_limit, breaks_12}
-use Rattle.graph.specs.Sets.{pass, repeated, with_ends, reached, reaching_end}
-use Rattle.graph.specs.Verdict.{rule_at, is_broken, first_broken, actions_verdict, verdict}
-use Rattle.model.specs.Record.{is_terminal}
-use Rattle.model.specs.Store.{listed, first_signal, signal_at, removed, appended, leaves_over, left_over, emptied, signals_fit}
-use Rattle.model.specs.Step.{answer as mapping_answer, terminate, evaluate, schedule, enter_activity, enter_await, enter_complete, arrive, enter, follow_to, route_limited, route, take_by, retry}
-use Rattle.machine.specs.Events.{named, named_node, applies, not_applicable, complete_invocation, stick, fail_invocation, on_signal, on_success, on_failure, on_unknown, on_result, resolve_as_complete, resolve_as_fail, on_resolved, on_ended, react}
-use Rattle.snapshot.specs.EventCheck.{event_fits}
-use Rattle.snapshot.specs.Check.{counters_fit, slots_fit, stands, consistent}
-use Rattle.kernel.specs.Drive.{operations_of, added, counting, consume_by, advance_by, driven}
-use Rattle.kernel.specs.Call.{closed, finish_by, start_stage, next_stage, admission, transition_by, transition}
+use Rattle.laws.specs.Rows.{rows}
 
 -- THE CALLS. Unless named, the microstep limit is 130, the four ceilings 64, the command and operation limits 10, times 0, and every call carries one value of 0 operations.
 unfoldable pub event : (kind sequence time signal outcome visit attempt status delay resolution : ℕ) → (retryable : Bool) → Event
