@@ -26,7 +26,7 @@ use Rattle.in_bytes.specs.Call.{mark, given, event_numbers, answered, answers, r
 use Rattle.in_bytes.specs.Boundary.{said, unread, ended, whole, on_numbers, decide}
 use Rattle.shipped.specs.Shipped.{Standing as Numbers, nothing as no_numbers, numbers as numbers_stand}
 use Rattle.shipped.specs.InBytes.{Standing, nothing, run_bytes, given_bytes, Gets, mark_of}
-use Rattle.shipped.specs.InBytesAnswer.{past, numbers_there}
+use Rattle.shipped.proofs.InBytesAnswer.{past, numbers_there}
 
 -- STAGES READ: the first, and behind it the others.
 record StageRead (stage : Stage) (stages : List Stage) (seen bytes : List ℕ) (at : ℕ) (ns : List ℕ) (next : ℕ) : Type 0 where
