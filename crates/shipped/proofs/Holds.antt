@@ -5,8 +5,7 @@ use Rattle.std.proofs.Common.{◌∙◌, ap, subst, eqb-true}
 use mathlib.Core.List.{List, [], ◌∷◌}
 use Rattle.laws.specs.Bool.{if◌then◌else◌, ◌and◌, split}
 use Rattle.laws.specs.All.{All, all_map}
-use Rattle.workflow.specs.View.{Workflow, workflow}
-use Rattle.kernel.specs.declared.Call.{Call}
+use Rattle.workflow.specs.View.{workflow}
 use Rattle.kernel.specs.Call.{Answer, next, wants, refused, Last, no_record, last, given_record, transition}
 use Rattle.demand3.specs.Demand3.{Entry, standing_after, standing as standing_record, next_entry, history, accepted, Demand3, OrderedBefore}
 use Rattle.demand3.specs.Single.{Proper}

@@ -16,7 +16,7 @@ use Rattle.codec.specs.Exact.{bytes_append}
 use Rattle.codec.specs.NumbersLaws.{numbers_exact}
 use Rattle.codec.specs.ColumnsLaws.{tidy_column, bytes_few}
 use Rattle.in_bytes.specs.Run.{run}
-use Rattle.in_bytes.specs.RunLaws.{run_exact, run_width, run_few}
+use Rattle.in_bytes.specs.RunLaws.{run_width, run_few}
 use Rattle.in_bytes.specs.Answer.{next, want, answer}
 use Rattle.shipped.specs.InBytes.{behind, run_in_answer}
 

@@ -225,7 +225,7 @@ pub numbers_got : (sheet : List ℕ) → sheet_shape.tidy sheet ≡ true → (st
 unfolding if◌then◌else◌
 numbers_got sheet tidy nothing no_numbers same gets ns next e = mark_is sheet tidy gets ns (parts_read sheet tidy gets ns next e)
 numbers_got sheet tidy nothing (numbers_stand xs) same gets ns next e = absurd same
-numbers_got sheet tidy (run_bytes run) no_numbers same gets ns next e = absurd same
+numbers_got sheet tidy (run_bytes _) no_numbers same gets ns next e = absurd same
 numbers_got sheet tidy (run_bytes b) (numbers_stand xs) same {bytes} gets ns next e =
     let p = parts_read sheet tidy gets ns next e in
     let i = second sheet tidy gets + 1 in

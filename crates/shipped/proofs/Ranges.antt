@@ -36,7 +36,7 @@ use Rattle.model.specs.declared.moves.Next.TheVariants.{Rest, Enter, Take, Consu
 use Rattle.model.specs.declared.moves.Move.{Move}
 use Rattle.model.specs.Record.{no_signal, no_visits, no_streak, no_node_result, no_position, no_invocation, fresh, visits_of, streak_of, set_signals, set_visits, set_streaks, set_results, seen, placed, finished}
 use Rattle.model.specs.Store.{listed, stored, signal_at, removed, appended, emptied}
-use Rattle.model.specs.Step.{position, no_mapping, answer, signal_outcome, streak_count, one_more_visit, phased, arrival, error, terminate, evaluate, schedule, enter_activity, enter_await, enter_complete, arrive, enter, follow_to, route_limited, route, take_by, retry}
+use Rattle.model.specs.Step.{no_mapping, answer, signal_outcome, streak_count, one_more_visit, phased, arrival, error, terminate, evaluate, schedule, enter_activity, enter_await, enter_complete, arrive, enter, follow_to, route_limited, route, take_by, retry}
 use Rattle.machine.specs.Events.{success_outcome, not_applicable, stick, on_ended, complete_invocation, fail_invocation, on_signal, on_success, on_failure, on_unknown, on_result, resolve_as_complete, resolve_as_fail, on_resolved, react}
 use Rattle.kernel.specs.declared.Limits.{Limits}
 use Rattle.kernel.specs.declared.Call.{Call}
