@@ -43,7 +43,7 @@ use Rattle.kernel.specs.declared.Call.{Call}
 use Rattle.kernel.specs.Drive.{Machine, counting, consume_by, advance_by, advance, is_moving, started, driven}
 use Rattle.kernel.specs.Call.{Last, no_record, last, Answer, next, wants, refused, admission, given, closed, finish_by, transition_by, transition}
 use Rattle.host.specs.Fits.{Number, Name, Code, ErrorFits, OutputFits, KeptFits, SignalFits, StreakFits, ResultFits, PositionFits, InvocationFits, EventFits, MappingFits, CallFits, Fits}
-use Rattle.shipped.specs.Sheet.{SheetFits, Sheet, admitted_sheet}
+use Rattle.shipped.proofs.Sheet.{SheetFits, Sheet, admitted_sheet}
 
 -- The record that stands, if there is one; and the record of an answer, if it has one.
 abbrev pub LastFits : Last → Type 0

@@ -32,15 +32,15 @@ use Rattle.in_bytes.specs.Boundary.{bad_bytes, short, no_item, done, packed, ret
 use Rattle.in_bytes.specs.BoundaryLaws.{all_back}
 use Rattle.shipped.specs.Shipped.{Standing as Numbers, nothing as no_numbers, numbers as numbers_stand}
 use Rattle.shipped.specs.Shipped as shipped
-use Rattle.shipped.specs.Refusals.{KnownAnswer}
-use Rattle.shipped.specs.OneCall.{kind_of, RecordBack, Told, told, known, fits, single}
-use Rattle.shipped.specs.Holds.{shipped_holds, shipped_ordered, shipped_proper}
-use Rattle.shipped.specs.TidyAnswer.{next_tidy, want_tidy}
-use Rattle.shipped.specs.TidySheet.{sheet_below}
+use Rattle.shipped.proofs.Refusals.{KnownAnswer}
+use Rattle.shipped.proofs.OneCall.{kind_of, RecordBack, Told, told, known, fits, single}
+use Rattle.shipped.proofs.Holds.{shipped_holds, shipped_ordered, shipped_proper}
+use Rattle.shipped.proofs.TidyAnswer.{next_tidy, want_tidy}
+use Rattle.shipped.proofs.TidySheet.{sheet_below}
 use Rattle.shipped.specs.InBytes.{Made, came_to, told_in, answer_to, accepts, answer_in, run_in_answer, run_bytes, standing, Gets, Follows, Ran, numbers_of, call_numbers, with_entry, entries, number, Tells, RunBack, Kept, Right}
-use Rattle.shipped.specs.InBytesAnswer.{Parts, parts, run_found, answer_few, want_few}
-use Rattle.shipped.specs.InBytesCall.{Same, GotNumbers, sheet_there, numbers_got, never_said, Answered, answered_by}
-use Rattle.shipped.specs.InBytesTaken.{taken}
+use Rattle.shipped.proofs.InBytesAnswer.{Parts, parts, run_found, answer_few, want_few}
+use Rattle.shipped.proofs.InBytesCall.{Same, GotNumbers, sheet_there, numbers_got, never_said, Answered, answered_by}
+use Rattle.shipped.proofs.InBytesTaken.{taken}
 
 said_same : {ns ms : List ℕ} → said ns ≡ said ms → ns ≡ ms
 said_same e = cc

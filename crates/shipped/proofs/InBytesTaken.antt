@@ -26,8 +26,8 @@ use Rattle.in_bytes.specs.Call.{mark, given, event_numbers, answered, answers, r
 use Rattle.in_bytes.specs.Boundary.{unread, ended, whole, on_numbers, decide}
 use Rattle.shipped.specs.Shipped.{Standing as Numbers, nothing as no_numbers, numbers as numbers_stand}
 use Rattle.shipped.specs.InBytes.{Standing, nothing, run_bytes, given_bytes, Gets, mark_of, Right}
-use Rattle.shipped.specs.InBytesAnswer.{past, numbers_there}
-use Rattle.shipped.specs.InBytesCall.{Same, mark_there, limit_bytes, sheet_bytes, from_mark, first, second, at_limits, at_sheet, at_mark, sheet_long, its_others, its_numbers, its_run, never_said}
+use Rattle.shipped.proofs.InBytesAnswer.{past, numbers_there}
+use Rattle.shipped.proofs.InBytesCall.{Same, mark_there, limit_bytes, sheet_bytes, from_mark, first, second, at_limits, at_sheet, at_mark, sheet_long, its_others, its_numbers, its_run, never_said}
 
 -- ONE STAGE READ, and those behind it.
 reads_on : (stage : Stage) (stages : List Stage) (seen bytes xs ms : List ℕ) (at place next : ℕ) → (stage.shape seen).read bytes at ≡ got xs place → (staged stages (seen ++ xs)).read bytes place ≡ got ms next → (staged (stage ∷ stages) seen).read bytes at ≡ got (xs ++ ms) next

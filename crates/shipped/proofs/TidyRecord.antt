@@ -16,7 +16,8 @@ use Rattle.model.specs.Answers.{output_numbers}
 use Rattle.model.specs.Record.{no_streak, no_node_result}
 use Rattle.model.specs.Store.{signal_zero, signals_fit}
 use Rattle.snapshot.specs.Check.{result_fits, result_zero, streak_fits, streak_zero, consistent}
-use Rattle.demand3.specs.Tidy.{Sized, Tidies, tidy_of}
+use Rattle.demand3.specs.Tidy.{Sized, Tidies}
+use Rattle.demand3.proofs.Tidy.{tidy_of}
 use Rattle.host.specs.Layout as layout
 use Rattle.host.specs.Lists.{every_all}
 use Rattle.host.specs.Write.{signal_numbers, visits_numbers, streak_numbers, result_numbers, head_numbers, record_numbers}
@@ -26,7 +27,7 @@ use Rattle.codec.specs.Stages.{numbers, column, all_zero}
 use Rattle.codec.specs.Slots.{slots}
 use Rattle.codec.specs.SlotsLaws.{slots_width}
 use Rattle.in_bytes.specs.Run.{single_numbers, stored_signals, all_visits, all_streaks, all_results, run}
-use Rattle.shipped.specs.TidyRows.{every_parts, stage_tidy, no_stage_tidy, numbers_tidy, rows_zero, rows_column, rows_slots}
+use Rattle.shipped.proofs.TidyRows.{every_parts, stage_tidy, no_stage_tidy, numbers_tidy, rows_zero, rows_column, rows_slots}
 
 -- UNUSED ROWS.
 signal_blank : (x : BufferedSignal) → signal_zero x ≡ true → all_zero (signal_numbers x) ≡ true

@@ -36,8 +36,8 @@ use Rattle.model.specs.Step.{no_ending, still, reading, one_more_visit, phased, 
 use Rattle.machine.specs.Events.{named, applies, not_applicable, complete_invocation, stick, fail_invocation, on_signal, on_success, on_failure, on_unknown, on_result, resolve_as_complete, resolve_as_fail, on_resolved, on_ended, react, apply}
 use Rattle.model.specs.StoreLaws.{IsSlotted, stored_length, appended_room, stored_appended, removed_at, stored_removed}
 use Rattle.demand3.specs.Words.{is_it, times, Counts, plain}
-use Rattle.demand3.specs.Counts.{ends_of, ends_none, ends_one, times_more, times_less, counts_more, grows_set}
-use Rattle.demand3.specs.Tidy.{Missed, rests, consumes}
+use Rattle.demand3.proofs.Counts.{ends_of, ends_none, ends_one, times_more, times_less, counts_more, grows_set}
+use Rattle.demand3.proofs.Tidy.{Missed, rests, consumes}
 use Rattle.kernel.specs.Cost.{entered, spares_result, spares_resolved}
 
 -- A CALL, by the record that it is given and its event.

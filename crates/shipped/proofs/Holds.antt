@@ -9,14 +9,14 @@ use Rattle.workflow.specs.View.{workflow}
 use Rattle.kernel.specs.Call.{Answer, next, wants, refused, Last, no_record, last, given_record, transition}
 use Rattle.demand3.specs.Demand3.{Entry, standing_after, standing as standing_record, next_entry, history, accepted, Demand3, OrderedBefore}
 use Rattle.demand3.specs.Single.{Proper}
-use Rattle.demand3.specs.Proof.{holds, all_ordered, all_proper}
-use Rattle.demand3.specs.Calls.{history_more}
+use Rattle.demand3.proofs.Holds.{holds, all_ordered, all_proper}
+use Rattle.demand3.proofs.Calls.{history_more}
 use Rattle.host.specs.Fits.{Number}
 use Rattle.host.specs.Layout.{written, bad_call, bad_record, answer_kind}
 use Rattle.host.specs.Read.{at, has_record, record_of, call_of, call_fits, record_fits}
 use Rattle.host.specs.Host.{receipt}
 use Rattle.host.specs.HostLaws.{receipt_not_3, receipt_by_call}
-use Rattle.shipped.specs.OneCall.{kind_of, RecordBack, Told, told}
+use Rattle.shipped.proofs.OneCall.{kind_of, RecordBack, Told, told}
 use Rattle.shipped.specs.Shipped.{Made, is_answered, answer_in, record_in, Standing, nothing, numbers, standing, Gets, Follows, RightLengths, Ran, entry, entries, calls}
 
 -- THE RECORD THAT STANDS, read; and its numbers fit.

@@ -18,10 +18,11 @@ use Rattle.kernel.specs.declared.Call.{Call}
 use Rattle.kernel.specs.Call.{Answer, next, wants, refused, Last, no_record, last, admission, given, finish_by, transition_by, transition}
 use Rattle.demand3.specs.Words.{times, plain}
 use Rattle.demand3.specs.Demand3.{Entry, standing_after, standing, next_entry, history, Done, done_by, accepted, signals, in_store, Fate, no_signal, still_stored, has_ended, counts, Demand3, endings, OrderedBefore, applied_were_ordered, all_ended, demand_3}
-use Rattle.demand3.specs.Driver.{Keeps, kept_driven, driven_frozen, driven_hears}
-use Rattle.demand3.specs.Closed.{ended_empty, checked_none_left, closes, live_closed, stands_closed, orders_closed, opens_closed, frozen_closed}
-use Rattle.demand3.specs.History.{Fact, History, fresh_history, one_more}
-use Rattle.demand3.specs.Single.{SizedLast, admitted, Begins, begins, Single, Proper, every_call}
+use Rattle.demand3.proofs.Driver.{Keeps, kept_driven, driven_frozen, driven_hears}
+use Rattle.demand3.proofs.Closed.{ended_empty, checked_none_left, closes, live_closed, stands_closed, orders_closed, opens_closed, frozen_closed}
+use Rattle.demand3.proofs.History.{Fact, History, fresh_history, one_more}
+use Rattle.demand3.specs.Single.{SizedLast, Single, Proper}
+use Rattle.demand3.proofs.Single.{admitted, Begins, begins, every_call}
 
 -- After the accepted calls ds: the record that stands, or any fresh one.
 abbrev Inv : (f : Workflow) → List Done → Last → Type 0

@@ -26,7 +26,7 @@ use Rattle.in_bytes.specs.Call.{mark, given, event_numbers, answered, answers, r
 use Rattle.in_bytes.specs.Boundary.{said, unread, ended, whole, on_numbers, decide}
 use Rattle.shipped.specs.Shipped.{Standing as Numbers, nothing as no_numbers, numbers as numbers_stand}
 use Rattle.shipped.specs.InBytes.{Standing, nothing, run_bytes, given_bytes, Gets, mark_of}
-use Rattle.shipped.specs.InBytesAnswer.{past, numbers_there}
+use Rattle.shipped.proofs.InBytesAnswer.{past, numbers_there}
 
 -- STAGES READ: the first, and behind it the others.
 record StageRead (stage : Stage) (stages : List Stage) (seen bytes : List ℕ) (at : ℕ) (ns : List ℕ) (next : ℕ) : Type 0 where
@@ -225,7 +225,7 @@ pub numbers_got : (sheet : List ℕ) → sheet_shape.tidy sheet ≡ true → (st
 unfolding if◌then◌else◌
 numbers_got sheet tidy nothing no_numbers same gets ns next e = mark_is sheet tidy gets ns (parts_read sheet tidy gets ns next e)
 numbers_got sheet tidy nothing (numbers_stand xs) same gets ns next e = absurd same
-numbers_got sheet tidy (run_bytes run) no_numbers same gets ns next e = absurd same
+numbers_got sheet tidy (run_bytes _) no_numbers same gets ns next e = absurd same
 numbers_got sheet tidy (run_bytes b) (numbers_stand xs) same {bytes} gets ns next e =
     let p = parts_read sheet tidy gets ns next e in
     let i = second sheet tidy gets + 1 in

@@ -21,11 +21,11 @@ use Rattle.kernel.specs.Drive.{Machine}
 use Rattle.kernel.specs.Call.{closed}
 use Rattle.demand3.specs.Words.{times}
 use Rattle.demand3.specs.Demand3.{ends}
-use Rattle.demand3.specs.Driver.{ends_append}
-use Rattle.demand3.specs.Tidy as Tidy
+use Rattle.demand3.proofs.Driver.{ends_append}
+use Rattle.demand3.proofs.Tidy as Tidy
 use Rattle.demand3.specs.Tidy.{Sized, Tidies}
-use Rattle.demand3.specs.Opened.{Opened}
-use Rattle.demand3.specs.Keep.{nothing, Lives, Stands, New, Ordering}
+use Rattle.demand3.proofs.Opened.{Opened}
+use Rattle.demand3.proofs.Keep.{nothing, Lives, Stands, New, Ordering}
 
 -- AN EMPTY STORE leaves nothing over; an ended run that leaves nothing over has an empty store.
 pub none_left_empty : (status : ℕ) → leaves_over status 0 ≡ false

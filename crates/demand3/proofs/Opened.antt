@@ -23,7 +23,7 @@ use Rattle.model.specs.Store.{removed, appended}
 use Rattle.model.specs.Step.{arrival, terminate, evaluate, schedule, enter_activity, enter_await, enter_complete, arrive, enter, follow_to, route_limited, route, take_by, take, retry}
 use Rattle.machine.specs.Events.{not_applicable, complete_invocation, stick, fail_invocation, on_signal, on_success, on_failure, on_unknown, on_result, resolve_as_complete, resolve_as_fail, on_resolved, on_ended, react}
 use Rattle.demand3.specs.Demand3.{Attempt, attempt, ordered_by}
-use Rattle.demand3.specs.Tidy.{Missed, rests, consumes}
+use Rattle.demand3.proofs.Tidy.{Missed, rests, consumes}
 
 -- The attempt of an invocation.
 abbrev pub its_attempt : InvocationState → Attempt

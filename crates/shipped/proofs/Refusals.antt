@@ -22,8 +22,9 @@ use Rattle.kernel.specs.Code.{microsteps_exceeded}
 use Rattle.kernel.specs.Drive.{Machine, driven}
 use Rattle.kernel.specs.declared.Call.{Call}
 use Rattle.kernel.specs.Call.{Answer, next, wants, refused, Last, no_record, last, start_stage, next_stage, record_stage, admission, given, finish_by, transition_by, transition}
-use Rattle.demand3.specs.Single.{SizedLast, Begins, admitted, begins}
-use Rattle.demand3.specs.Driver.{Checks, checked_driven}
+use Rattle.demand3.specs.Single.{SizedLast}
+use Rattle.demand3.proofs.Single.{Begins, admitted, begins}
+use Rattle.demand3.proofs.Driver.{Checks, checked_driven}
 
 -- BEFORE THE STEP.
 record Known (v : Verdict) : Type 0 where

@@ -10,7 +10,8 @@ use Rattle.model.specs.Answers.{answer_numbers}
 use Rattle.kernel.specs.Call.{Last, no_record, last, Answer, next, wants, refused, given_record, transition}
 use Rattle.kernel.specs.Decision.{decision_of}
 use Rattle.demand3.specs.Steps.{begun}
-use Rattle.demand3.specs.Single.{Proper, Single, SizedLast, every_call}
+use Rattle.demand3.specs.Single.{Proper, Single, SizedLast}
+use Rattle.demand3.proofs.Single.{every_call}
 use Rattle.host.specs.Fits.{Number, Fits, AnswerFits}
 use Rattle.host.specs.Layout.{written, answer_kind, answer_record}
 use Rattle.host.specs.Read.{at, has_record, record_of, call_of, call_fits, record_fits}
@@ -21,9 +22,9 @@ use Rattle.host.specs.ReadAnswer.{answer_of_numbers}
 use Rattle.host.specs.Round.{fits_read, call_fits_read}
 use Rattle.host.specs.RoundBack.{record_back_of, numbers_fit}
 use Rattle.host.specs.AnswerBack.{next_record, want_record, answered_begins, answered_read}
-use Rattle.shipped.specs.Sheet.{sheet_fits}
-use Rattle.shipped.specs.Ranges.{LastFits, RecordFits, kept_fits}
-use Rattle.shipped.specs.Refusals.{KnownAnswer, known_answer}
+use Rattle.shipped.proofs.Sheet.{sheet_fits}
+use Rattle.shipped.proofs.Ranges.{LastFits, RecordFits, kept_fits}
+use Rattle.shipped.proofs.Refusals.{KnownAnswer, known_answer}
 use Rattle.shipped.specs.Shipped.{answer_in, record_in}
 
 -- WHAT A HOST FINDS in the buffer of an answer: its kind; the record, if there is one, which fits and is read as the answer's record; and read as a whole it is the answer.

@@ -32,12 +32,12 @@ use Rattle.kernel.specs.Code.{microsteps_exceeded}
 use Rattle.kernel.specs.Drive.{Machine, added, moved, counting, consume_by, advance_by, advance, moves_on, is_moving, opened, started, driven}
 use Rattle.kernel.specs.Bounds.{Bounds, Bounded, fewer, stopped, bounded_advance, bounded_started}
 use Rattle.demand3.specs.Words.{plain}
-use Rattle.demand3.specs.Counts.{ends_of}
+use Rattle.demand3.proofs.Counts.{ends_of}
 use Rattle.demand3.specs.Demand3.{ends}
-use Rattle.demand3.specs.Tidy as Tidy
-use Rattle.demand3.specs.Keep as Keep
-use Rattle.demand3.specs.Keep.{Ready, heard, live_removed, stands_removed, good_waits, frozen, hears}
-use Rattle.demand3.specs.Opened as Opened
+use Rattle.demand3.proofs.Tidy as Tidy
+use Rattle.demand3.proofs.Keep as Keep
+use Rattle.demand3.proofs.Keep.{Ready, heard, live_removed, stands_removed, good_waits, frozen, hears}
+use Rattle.demand3.proofs.Opened as Opened
 
 -- THE LISTS.
 every_front : {A : Type 0} (p : A → Bool) (xs ys : List A) → every p (xs ++ ys) ≡ true → every p xs ≡ true

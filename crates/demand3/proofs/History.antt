@@ -23,9 +23,9 @@ use Rattle.snapshot.specs.Check.{consistent}
 use Rattle.machine.specs.Events.{named, applies}
 use Rattle.demand3.specs.Words.{is_it, times, total, Counts, plain}
 use Rattle.demand3.specs.Tidy.{Sized}
-use Rattle.demand3.specs.Closed.{none_left_empty, checked_none_left}
-use Rattle.demand3.specs.Opened.{its_attempt, Opened, closed, orders_it, as_before}
-use Rattle.demand3.specs.Keep.{base, heard, opens, rise, Heard, heard_is, Ready, nothing, Lives, gone, anew, stays, Stands, New, Ordering}
+use Rattle.demand3.proofs.Closed.{none_left_empty, checked_none_left}
+use Rattle.demand3.proofs.Opened.{its_attempt, Opened, closed, orders_it, as_before}
+use Rattle.demand3.proofs.Keep.{base, heard, opens, rise, Heard, heard_is, Ready, nothing, Lives, gone, anew, stays, Stands, New, Ordering}
 use Rattle.kernel.specs.Call.{Accepted}
 use Rattle.demand3.specs.Demand3.{Done, Attempt, attempt, ordered_by, ordered, applied_by, applied, signals, ends, endings, dated, Same, Frozen, OrderedBefore}
 

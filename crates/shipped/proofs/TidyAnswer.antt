@@ -28,8 +28,8 @@ use Rattle.in_bytes.specs.Run.{run}
 use Rattle.in_bytes.specs.Answer.{counted_rows, the_run, answer}
 use Rattle.in_bytes.specs.Answer as bytes
 use Rattle.in_bytes.specs.RunLaws.{run_exact}
-use Rattle.shipped.specs.TidyRows.{every_parts, stage_tidy, no_stage_tidy, numbers_tidy, rows_zero, rows_column}
-use Rattle.shipped.specs.TidyRecord.{tidies_tidy, record_tidy}
+use Rattle.shipped.proofs.TidyRows.{every_parts, stage_tidy, no_stage_tidy, numbers_tidy, rows_zero, rows_column}
+use Rattle.shipped.proofs.TidyRecord.{tidies_tidy, record_tidy}
 
 -- ROWS FILLED UP with one that is zero.
 module _ {A : Type 0} (f : A → List ℕ) (d : A) (blank : all_zero (f d) ≡ true) where
