@@ -286,7 +286,13 @@ fn start(rt: &impl Print, w: &[u32; NUMBERS], run: Run) -> io::Result<Run> {
 }
 
 // The panel's shot and its correction succeeded.
-fn success(rt: &impl Print, w: &[u32; NUMBERS], run: Run, what: &[u8], visit: u32) -> io::Result<Run> {
+fn success(
+    rt: &impl Print,
+    w: &[u32; NUMBERS],
+    run: Run,
+    what: &[u8],
+    visit: u32,
+) -> io::Result<Run> {
     let mut e = event(code::ACTIVITY_RESULT, next_number(run.calls));
     e.visit = visit;
     e.attempt = 1;
@@ -295,7 +301,13 @@ fn success(rt: &impl Print, w: &[u32; NUMBERS], run: Run, what: &[u8], visit: u3
 }
 
 // The verdict came: signal 5 with an outcome.
-fn verdict(rt: &impl Print, w: &[u32; NUMBERS], run: Run, what: &[u8], outcome: u32) -> io::Result<Run> {
+fn verdict(
+    rt: &impl Print,
+    w: &[u32; NUMBERS],
+    run: Run,
+    what: &[u8],
+    outcome: u32,
+) -> io::Result<Run> {
     let mut e = event(code::SIGNAL_RECEIVED, next_number(run.calls));
     e.signal = 5;
     e.outcome = outcome;
