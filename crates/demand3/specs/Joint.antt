@@ -1,62 +1,40 @@
 -- Joint A of document 01: its twelve cases, and those of document 02, as one computed table over the definition of the call.
-use Rattle.std.specs.Prelude.{◌≡◌, refl, Bool, true, false, List, [], ◌∷◌, ◌++◌, map, ℕ, ◌+◌, ◌-◌, ◌^◌, get_or, replicate}
-use Rattle.std.proofs.Common.{sym, subst}
-use Rattle.std.proofs.Math.Path.{fun_ext}
-use Rattle.workflow.specs.View.{Workflow, workflow}
-use Rattle.joint_a.specs.Sheet.{numbers}
-use Rattle.joint_a.specs.SheetLaws.{sheet, is_sheet}
+use Rattle.std.specs.Prelude.{◌≡◌, Bool, true, false, List, [], ◌∷◌, ◌++◌, map, ℕ, ◌+◌, ◌-◌, ◌^◌, get_or, replicate}
+use Rattle.workflow.specs.View.{Workflow}
 use Rattle.model.specs.declared.BufferedSignal.{BufferedSignal}
 use Rattle.model.specs.declared.event.Event.{Event}
 use Rattle.model.specs.declared.answer.Note.{Note}
 use Rattle.model.specs.declared.answer.Ending.{Ending}
 use Rattle.model.specs.Record.{no_node_result, streak_of, set_signals}
-use Rattle.model.specs.Answers.{output_numbers, kept_numbers, params_numbers, order_numbers}
+use Rattle.model.specs.Answers.{output_numbers, kept_numbers, order_numbers}
 use Rattle.kernel.specs.declared.Call.{Call}
-use Rattle.kernel.specs.Call.{Answer, next, wants, refused, Last, no_record, last}
+use Rattle.kernel.specs.Call.{Answer, next, wants, refused, Last, no_record, last, transition}
 use Rattle.demand3.specs.Demand3.{Entry, standing, history, dated}
-use Rattle.laws.specs.Bool.{if◌then◌else◌, ◌and◌, ◌or◌}
-use Rattle.laws.specs.Rows.{rows, span}
-use Rattle.laws.specs.First.{first}
-use Rattle.laws.specs.Every.{every}
-use Rattle.laws.specs.Shift.{remove_at, without}
-use Rattle.laws.specs.Settle.{settle}
-use Rattle.workflow.specs.Lookup.{node_of, policy_of, are, route_of, limit_of, declares}
-use Rattle.graph.specs.Form.{formed_node, formed_route, formed_limit, formed_declared, chained_from, chained, ascends, form}
-use Rattle.graph.specs.Rules.{reserved, declared_twice, breaks_7, unrouted, extra, leads_nowhere, breaks_8, breaks_9, bad_limit, breaks_12}
-use Rattle.graph.specs.Sets.{pass, repeated, with_ends, reached, reaching_end}
-use Rattle.graph.specs.Verdict.{rule_at, is_broken, first_broken, actions_verdict, verdict}
-use Rattle.model.specs.Record.{is_terminal}
-use Rattle.model.specs.Store.{listed, first_signal, signal_at, removed, appended, leaves_over, left_over, emptied, signals_fit}
-use Rattle.model.specs.Step.{answer as mapping_answer, terminate, evaluate, schedule, enter_activity, enter_await, enter_complete, arrive, enter, follow_to, route_limited, route, take_by, retry}
-use Rattle.machine.specs.Events.{named, named_node, applies, not_applicable, complete_invocation, stick, fail_invocation, on_signal, on_success, on_failure, on_unknown, on_result, resolve_as_complete, resolve_as_fail, on_resolved, on_ended, react}
-use Rattle.snapshot.specs.EventCheck.{event_fits}
-use Rattle.snapshot.specs.Check.{counters_fit, slots_fit, stands, consistent}
-use Rattle.kernel.specs.Drive.{operations_of, added, counting, consume_by, advance_by, driven}
-use Rattle.kernel.specs.Call.{closed, finish_by, start_stage, next_stage, admission, transition_by, transition}
+use Rattle.laws.specs.Rows.{rows}
 
 -- THE CALLS. Unless named, the microstep limit is 130, the four ceilings 64, the command and operation limits 10, times 0, and every call carries one value of 0 operations.
-event : (kind sequence time signal outcome visit attempt status delay resolution : ℕ) → (retryable : Bool) → Event
+unfoldable pub event : (kind sequence time signal outcome visit attempt status delay resolution : ℕ) → (retryable : Bool) → Event
 event k q t g o v a z d r y =
     record { sequence = q; accepted_at = t; delay = d; event_id = 100 + q; kind = k; input = 9; signal = g; outcome = o; «data» = 8; node = 0; visit = v; attempt = a; status = z; output = 7; code = 0; detail = 0; resolution = r; has_error = false; retryable = y }
 
-start : Event
+unfoldable pub start : Event
 start = event 1 1 0 0 0 0 0 0 0 0 false
 
-signal : (sequence signal outcome : ℕ) → Event
+unfoldable pub signal : (sequence signal outcome : ℕ) → Event
 signal q g o = event 2 q 0 g o 0 0 0 0 0 false
 
 -- an operator's fail, of visit 1
-failed : (sequence : ℕ) → Event
+unfoldable pub failed : (sequence : ℕ) → Event
 failed q = event 4 q 0 0 0 1 0 0 0 3 false
 
-noted : (sequence : ℕ) → Event
+unfoldable pub noted : (sequence : ℕ) → Event
 noted q = event 5 q 0 0 0 0 0 0 0 0 false
 
 -- of attempt 1
-result : (sequence time visit status delay : ℕ) → (retryable : Bool) → Event
+unfoldable pub result : (sequence time visit status delay : ℕ) → (retryable : Bool) → Event
 result q t v z d y = event 3 q t 0 255 v 1 z d 0 y
 
-call : (microsteps commands : ℕ) → Event → Call
+unfoldable pub call : (microsteps commands : ℕ) → Event → Call
 call l k e =
     record {
       ceilings = record { nodes = 64; visits = 64; activations = 64; attempts = 64 };
@@ -65,7 +43,7 @@ call l k e =
       mappings = record { answers = replicate 2 (record { kind = 1; value = 5; code = 0; detail = 0; operations = 0 }); count = 1 };
     }
 
-plainly : Event → Call
+unfoldable pub plainly : Event → Call
 plainly e = call 130 10 e
 
 -- WHAT IS LOOKED AT: status, node, visit and phase; microsteps; order; notes; endings; the streak of node 1 and the outcome of its result; the run's result; the error
@@ -80,7 +58,7 @@ pub record Seen : Type 0 where
   pub result : List ℕ
   pub kept : List ℕ
 
-seen_of : Answer → Seen
+unfoldable pub seen_of : Answer → Seen
 seen_of (next accepted) =
     let state = accepted.state in
     record {
@@ -97,7 +75,7 @@ seen_of (wants node field from state) = record { place = node ∷ field ∷ from
 seen_of (refused number item) = record { place = number ∷ item ∷ []; microsteps = 0; order = []; notes = []; endings = []; node_1 = []; result = []; kept = [] }
 
 -- The answer to the last of a list of calls.
-newest : List Entry → Answer
+unfoldable pub newest : List Entry → Answer
 newest [] = refused 0 0
 newest (x ∷ h) = x.said
 
@@ -105,7 +83,7 @@ newest (x ∷ h) = x.said
 abbrev sixes : List BufferedSignal
 sixes = rows (λ i. record { sequence = 3 + i; event_id = 6; signal = 6; outcome = 255; «data» = 6 }) 0 64
 
-sixty_four : Last → Last
+unfoldable pub sixty_four : Last → Last
 sixty_four no_record = no_record
 sixty_four (last s) = last (dated (set_signals s sixes 64) 66 0)
 
@@ -122,25 +100,25 @@ to_3 = to_2 ++ (plainly (signal 3 5 4) ∷ [])
 abbrev to_7 : List Call
 to_7 = plainly start ∷ plainly (result 2 0 1 3 0 false) ∷ []
 
-no_order : List ℕ
+unfoldable pub no_order : List ℕ
 no_order = replicate 9 0
 
-scheduled : (visit : ℕ) → List ℕ
+unfoldable pub scheduled : (visit : ℕ) → List ℕ
 scheduled v = 1 ∷ 0 ∷ v ∷ 0 ∷ 1 ∷ 0 ∷ 5 ∷ 0 ∷ 0 ∷ []
 
-refusal : (number item : ℕ) → Seen
+unfoldable pub refusal : (number item : ℕ) → Seen
 refusal number item = record { place = number ∷ item ∷ []; microsteps = 0; order = []; notes = []; endings = []; node_1 = []; result = []; kept = [] }
 
 -- A run that has no result yet, and keeps no error.
-going : (place : List ℕ) → (microsteps : ℕ) → (order : List ℕ) → (notes endings : List (List ℕ)) → (node_1 : List ℕ) → Seen
+unfoldable pub going : (place : List ℕ) → (microsteps : ℕ) → (order : List ℕ) → (notes endings : List (List ℕ)) → (node_1 : List ℕ) → Seen
 going place microsteps order notes endings node_1 =
     record { place = place; microsteps = microsteps; order = order; notes = notes; endings = endings; node_1 = node_1; result = replicate 4 0; kept = replicate 4 0 }
 
-again : (sequence : ℕ) → Seen
+unfoldable pub again : (sequence : ℕ) → Seen
 again q = going (1 ∷ 0 ∷ 2 ∷ 1 ∷ []) 2 (scheduled 2) [] ((q ∷ 1 ∷ []) ∷ []) (1 ∷ 4 ∷ [])
 
 -- A run that is completed with the value, by signal 5.
-completed : (microsteps : ℕ) → (notes endings : List (List ℕ)) → Seen
+unfoldable pub completed : (microsteps : ℕ) → (notes endings : List (List ℕ)) → Seen
 completed microsteps notes endings =
     record { place = 4 ∷ 255 ∷ 0 ∷ 0 ∷ []; microsteps = microsteps; order = no_order; notes = notes; endings = endings; node_1 = 0 ∷ 1 ∷ []; result = 1 ∷ 5 ∷ 0 ∷ 0 ∷ []; kept = replicate 4 0 }
 
@@ -148,18 +126,18 @@ pub record Case : Type 0 where
   pub is : Seen
   pub should_be : Seen
 
-case : Seen → Seen → Case
+unfoldable pub case : Seen → Seen → Case
 case x y = record { is = x; should_be = y }
 
 -- on Joint A's sheet, by the limit on outcome 4
 module _ (sheet : (limit : ℕ) → Workflow) where
-  after : (limit : ℕ) → List Call → Seen
+  unfoldable pub after : (limit : ℕ) → List Call → Seen
   after limit calls = seen_of (newest (history (sheet limit) [] calls))
 
-  on_full : List Call → Event → Seen
+  unfoldable pub on_full : List Call → Event → Seen
   on_full calls event = seen_of (transition (sheet 1) (sixty_four (standing (history (sheet 1) [] calls))) (plainly event))
 
-  pub cases : List Case
+  unfoldable pub cases : List Case
   cases =
       -- 1. Start, one value: schedule 0, visit 1, attempt 1; 1 microstep.
       case (after 1 to_1) (going (1 ∷ 0 ∷ 1 ∷ 1 ∷ []) 1 (scheduled 1) [] [] (0 ∷ 0 ∷ []))
@@ -238,12 +216,3 @@ module _ (sheet : (limit : ℕ) → Workflow) where
 
   abbrev pub Agree : Type 0
   Agree = map (λ (it : Case). it.is) cases ≡ map (λ (it : Case). it.should_be) cases
-
-on_rows : Agree sheet
-unfolding event start signal failed noted result call plainly seen_of newest after sixty_four on_full no_order scheduled refusal going again completed case cases output_numbers kept_numbers params_numbers order_numbers
-    if◌then◌else◌ ◌and◌ ◌or◌ rows span first every remove_at without settle node_of policy_of are route_of limit_of declares formed_node formed_route formed_limit formed_declared chained_from chained ascends form reserved declared_twice breaks_7 unrouted extra leads_nowhere breaks_8 breaks_9 bad_limit breaks_12 pass repeated with_ends reached reaching_end rule_at is_broken first_broken actions_verdict verdict is_terminal listed first_signal signal_at removed appended leaves_over left_over emptied signals_fit mapping_answer terminate evaluate schedule enter_activity enter_await enter_complete arrive enter follow_to route_limited route take_by retry named named_node applies not_applicable complete_invocation stick fail_invocation on_signal on_success on_failure on_unknown on_result resolve_as_complete resolve_as_fail on_resolved on_ended react counters_fit slots_fit stands consistent operations_of added counting consume_by advance_by driven event_fits closed finish_by start_stage next_stage admission transition_by transition standing history
-on_rows = refl
-
--- THE TABLE, on the sheet that is read from the numbers which the walking program has.
-pub joint_A : Agree (λ limit. workflow (numbers limit))
-joint_A = subst Agree (fun_ext (λ limit. sym (is_sheet limit))) on_rows

@@ -1,17 +1,11 @@
--- definitions
+-- the claim
 pub mod Words
 pub mod Steps
 pub mod Demand3
--- laws
-pub mod StepsLaws
-pub mod Counts
+-- of every single call
 pub mod Tidy
-pub mod Keep
-pub mod Opened
-pub mod Driver
-pub mod Closed
-pub mod History
 pub mod Single
-pub mod Proof
+-- of the code
 pub mod Calls
+-- Joint A
 pub mod Joint

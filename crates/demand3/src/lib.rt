@@ -1,2 +1,2 @@
-// Demand 3 of document 01: the claim and its proof, in specs/.
+// Demand 3 of document 01: the claim in specs/, its proof in proofs/.
 #![tactic(auto)]

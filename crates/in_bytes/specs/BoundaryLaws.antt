@@ -1,12 +1,12 @@
 -- The boundary's functions by their tests.
-use Rattle.std.specs.Prelude.{◌≡◌, Bool, not, List, [], ◌∷◌, ◌++◌, ℕ, ◌+◌, ◌*◌, ◌-◌, ◌^◌, ◌≤◌, ◌<◌, ltb, length}
+use Rattle.std.specs.Prelude.{◌≡◌, Bool, List, [], ℕ, ◌+◌, ◌-◌, ◌≤◌, ◌<◌, length}
 use Rattle.std.proofs.Math.Path.{refl, ap}
 use Rattle.std.proofs.Common.{sym, ◌∙◌, append-nil, arith, take_all}
 use Rattle.std.proofs.Math.Bool.{true, false}
 use Rattle.std.proofs.lemmas.Bool.{false≢true}
 use Rattle.std.proofs.Math.Dec.{eqb}
 use borrow.Author.Tests.{lt-ltb, le-ltb, eq-eqb, ne_eqb, eqb-true}
-use Rattle.laws.specs.Bool.{if◌then◌else◌, split}
+use Rattle.laws.specs.Bool.{if◌then◌else◌}
 use Rattle.laws.specs.Splice.{splice, splice_all}
 use Rattle.workflow.specs.Layout.{numbers as sheet_length}
 use Rattle.host.specs.Layout as layout
@@ -16,12 +16,12 @@ use Rattle.codec.specs.Read.{Read, got, bad}
 use Rattle.codec.specs.Numbers.{bytes_of, part}
 use Rattle.codec.specs.Stages.{Shape, numbers}
 use Rattle.codec.specs.Stored.{place_of, Stored}
-use Rattle.codec.specs.Exact.{Bytes, Exact, not_bad}
+use Rattle.codec.specs.Exact.{Bytes, Exact}
 use Rattle.in_bytes.specs.Sheet.{sheet}
 use Rattle.in_bytes.specs.Run.{run}
 use Rattle.in_bytes.specs.Event.{event, event_fits}
 use Rattle.in_bytes.specs.Answer.{answer}
-use Rattle.in_bytes.specs.Boundary.{bad_bytes, short, bad_form, bad_run, no_item, Outcome, done, refused, packed, returned, left, into, write_sheet, write_run, write_event, ended, whole, taken, read_sheet, read_run, read_event, Decided, said, unread, told}
+use Rattle.in_bytes.specs.Boundary.{bad_bytes, short, bad_form, bad_run, no_item, Outcome, done, refused, packed, returned, left, into, write_sheet, write_run, write_event, ended, whole, taken, read_sheet, read_run, read_event, said, told}
 
 -- What a function returns and leaves, once its outcome is known.
 module _ {o : Outcome} (array : List ℕ) where

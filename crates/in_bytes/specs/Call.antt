@@ -1,5 +1,5 @@
 -- A call as bytes (docs/BYTES.md): ceilings and limits; the sheet; 0, or 1 and the run; the event; the mapping answers after their count.
-use Rattle.std.specs.Prelude.{List, [], ◌∷◌, ◌++◌, ℕ, suc, ◌+◌, ◌*◌, ◌-◌, ◌^◌, eqb, get_or, take, drop}
+use Rattle.std.specs.Prelude.{List, [], ◌∷◌, ◌++◌, ℕ, suc, ◌+◌, ◌*◌, ◌^◌, eqb, get_or, take, drop}
 use Rattle.laws.specs.Bool.{if◌then◌else◌}
 use Rattle.workflow.specs.Layout.{numbers as sheet_length}
 use Rattle.host.specs.Layout as layout

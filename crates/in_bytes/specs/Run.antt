@@ -1,5 +1,5 @@
 -- A run as bytes (docs/BYTES.md): its single numbers; the stored signals, whose slots are in order of arrival; visits, streaks and results of all nodes.
-use Rattle.std.specs.Prelude.{List, [], ◌∷◌, ℕ, ◌*◌, ◌^◌, get_or}
+use Rattle.std.specs.Prelude.{[], ◌∷◌, ◌*◌, ◌^◌, get_or}
 use Rattle.host.specs.Layout as layout
 use Rattle.codec.specs.Stages.{Shape, numbers, column, Stage, staged}
 use Rattle.codec.specs.Slots.{slots}

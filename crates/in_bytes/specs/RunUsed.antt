@@ -2,12 +2,12 @@
 use Rattle.std.specs.Prelude.{◌≡◌, Bool, true, ◌&&◌, List, ltb, length}
 use Rattle.std.proofs.Math.Path.{refl}
 use Rattle.std.proofs.Common.{sym, ap, ◌∙◌}
-use Prim.Native.Nat.{ℕ, zero, suc, ◌+◌, ◌*◌, ◌-◌, ◌^◌, ◌≤◌, ◌<◌}
+use Prim.Native.Nat.{ℕ, suc, ◌+◌, ◌*◌, ◌-◌, ◌^◌, ◌≤◌, ◌<◌}
 use native.Mathlib.Omega.{arith}
 use Rattle.std.proofs.Math.Dec.{eqb}
 use Rattle.std.proofs.Math.ListN.{get_or}
 use borrow.Author.Tests.{eqb-true, ltb-true, ltb-false}
-use Rattle.laws.specs.Bool.{◌and◌, split, both}
+use Rattle.laws.specs.Bool.{split, both}
 use Rattle.codec.specs.Numbers.{part}
 use Rattle.codec.specs.Slots.{slots}
 use Rattle.codec.specs.PartLaws.{get_d_part}
@@ -15,7 +15,7 @@ use Rattle.codec.specs.TidyLaws.{column_low, column_zero, slots_zero}
 use Rattle.host.specs.Layout as layout
 use Rattle.host.specs.Layout.{visits_place, streak_place, result_place}
 use Rattle.host.specs.Read.{at}
-use Rattle.host.specs.ByCount.{Zeros, SignalsPast, NodesPast}
+use Rattle.host.specs.ByCount.{SignalsPast, NodesPast}
 use Rattle.host.specs.Cases.{both_of}
 use Rattle.in_bytes.specs.Run.{stored_signals, run}
 use Rattle.in_bytes.specs.RunLaws.{parts_neat}

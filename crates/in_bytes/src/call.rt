@@ -1,6 +1,6 @@
 // A call from bytes: ceilings and limits; the sheet; 0, or 1 and a run; the event; the mapping answers after their count.
 ghost use Rattle.std.specs.Prelude.{◌≡◌, replicate};
-ghost use Rattle.workflow.specs.Layout.{numbers as sheet-length};
+ghost use Rattle.workflow.specs.Layout.{numbers as sheet_length};
 ghost use Rattle.host.specs.Layout.{record_length, call_length, call_has_record};
 ghost use Rattle.host.specs.Write.{marked};
 ghost use Rattle.codec.specs.Stored.{place_of, Stored, ZeroFrom};
@@ -87,7 +87,7 @@ pub fn read_call(
     call: &mut [u64; layout::CALL],
     run: &mut [u64; layout::RECORD],
 ) -> Place
-    requires { (sheet.old ≡ replicate sheet-length 0) × (call.old ≡ replicate call_length 0) × (run.old ≡ replicate record_length 0) }
+    requires { (sheet.old ≡ replicate sheet_length 0) × (call.old ≡ replicate call_length 0) × (run.old ≡ replicate record_length 0) }
     ensures value { result ≡ place_of (whole_call.read bytes.now 0) }
     ensures call_stored { CallStored (whole_call.read bytes.now 0) sheet.new call.new run.new }
 {

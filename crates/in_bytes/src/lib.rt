@@ -10,7 +10,7 @@ pub mod structs;
 
 ghost use Rattle.std.specs.Prelude.{◌≡◌, ◌≤◌, length};
 ghost use Rattle.laws.specs.Splice.{splice};
-ghost use Rattle.workflow.specs.Layout.{numbers as sheet-length};
+ghost use Rattle.workflow.specs.Layout.{numbers as sheet_length};
 ghost use Rattle.in_bytes.specs.Boundary.{no_item, packed, returned, left, write_sheet, write_run, write_event, read_sheet, read_run, read_event, said, told, decide, decide_on, is_said, said_in, Of64Bits, call_bytes, call_bytes_on};
 ghost use Rattle.in_bytes.specs.BoundaryLaws.{ends_at};
 
@@ -291,7 +291,7 @@ pub fn kuxhoveza_call_on(
 ) -> u64
     ensures value { result ≡ returned (call_bytes_on sheet.now sheet_len bytes.now (length out.old)) }
     ensures out_after { out.new ≡ left (call_bytes_on sheet.now sheet_len bytes.now (length out.old)) out.old }
-    ensures of_64_bits { sheet_len ≡ sheet-length → Of64Bits (decide_on sheet.now bytes.now) }
+    ensures of_64_bits { sheet_len ≡ sheet_length → Of64Bits (decide_on sheet.now bytes.now) }
 {
     if sheet_len != NUMBERS {
         return receipt(layout::BAD_SHEET_LENGTH);

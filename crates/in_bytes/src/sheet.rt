@@ -1,7 +1,7 @@
 // A sheet as bytes: its single numbers, then the used slots of each column.
 ghost use Rattle.std.specs.Prelude.{◌≡◌, true, ◌≤◌, length, replicate};
 ghost use Rattle.laws.specs.Splice.{splice};
-ghost use Rattle.workflow.specs.Layout.{numbers as sheet-length};
+ghost use Rattle.workflow.specs.Layout.{numbers as sheet_length};
 ghost use Rattle.codec.specs.Numbers.{bytes_of};
 ghost use Rattle.codec.specs.Stored.{place_of, Stored};
 ghost use Rattle.in_bytes.specs.Sheet.{used, sheet};
@@ -43,7 +43,7 @@ fn count(x: u32) -> usize
 
 // How many slots of each column are used.
 fn used(w: &[u32]) -> [usize; COLUMNS]
-    requires { length w.now ≡ sheet-length }
+    requires { length w.now ≡ sheet_length }
     ensures { result ≡ used w.now }
 {
     let nodes = count(w[layout::NODE_COUNT]);
@@ -59,7 +59,7 @@ fn used(w: &[u32]) -> [usize; COLUMNS]
 
 // From bytes into numbers that are all zero.
 pub fn read_sheet(bytes: &[u8], start: usize, w: &mut [u32; layout::NUMBERS]) -> Place
-    requires { w.old ≡ replicate sheet-length 0 }
+    requires { w.old ≡ replicate sheet_length 0 }
     ensures value { result ≡ place_of (sheet.read bytes.now start) }
     ensures stored { Stored (sheet.read bytes.now start) w.old 0 w.new }
 {
@@ -73,7 +73,7 @@ pub fn read_sheet(bytes: &[u8], start: usize, w: &mut [u32; layout::NUMBERS]) ->
 
 // Every count is within its capacity, and every slot that isn't used is zero.
 pub fn sheet_tidy(w: &[u32]) -> bool
-    requires { length w.now ≡ sheet-length }
+    requires { length w.now ≡ sheet_length }
     ensures { result ≡ sheet.tidy w.now }
 {
     let used = used(w);
@@ -82,7 +82,7 @@ pub fn sheet_tidy(w: &[u32]) -> bool
 
 // How many bytes a tidy sheet takes.
 pub fn sheet_size(w: &[u32]) -> usize
-    requires { (length w.now ≡ sheet-length) × (sheet.tidy w.now ≡ true) }
+    requires { (length w.now ≡ sheet_length) × (sheet.tidy w.now ≡ true) }
     ensures { result ≡ length (bytes_of (sheet.fields w.now)) }
 {
     let used = used(w);
@@ -91,7 +91,7 @@ pub fn sheet_size(w: &[u32]) -> usize
 
 // Its bytes are written to the buffer's beginning.
 pub fn write_sheet(out: &mut [u8], w: &[u32])
-    requires { (length w.now ≡ sheet-length) × (sheet.tidy w.now ≡ true) × (length (bytes_of (sheet.fields w.now)) ≤ length out.old) }
+    requires { (length w.now ≡ sheet_length) × (sheet.tidy w.now ≡ true) × (length (bytes_of (sheet.fields w.now)) ≤ length out.old) }
     ensures { out.new ≡ splice out.old 0 (bytes_of (sheet.fields w.now)) }
 {
     let used = used(w);

@@ -1,3 +1,2 @@
-// What a host keeps: the ranges of a record, and demand 3 of the exported function, in specs/.
+// What a host keeps: the ranges of a record, and demand 3 of the exported function: the claims in specs/, their proofs in proofs/.
 #![tactic(auto)]
-

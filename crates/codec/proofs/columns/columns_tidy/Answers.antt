@@ -6,7 +6,7 @@ use Rattle.codec.specs.ColumnsLoops.{test_start, test_room, test_over, test_dirt
 use Rattle.codec.proofs.columns.columns_tidy.Goals as goal
 
 pub loop-c-init : goal.loop-c-init
-loop-c-init c = test_start (2 ^ 32) c.args.rooms.now c.args.used.now c.args.xs.now c.args.first c.requires.0 (λ n. omega (arith, c.shared_slice_known-1.given n))
+loop-c-init c = test_start (2 ^ 32) c.args.rooms.now c.args.used.now c.args.xs.now c.args.first c.requires.0 (λ n. omega (arith, c.type_inv.xs n))
 
 pub returns-then-rooms-c : goal.returns-then-rooms-c
 returns-then-rooms-c c = test_over c.loop-c.invariant c.loop-c-test.true c.if-rooms-c.true

@@ -26,12 +26,12 @@ returns-then-b-lt128 c = got_number (following_last c.loop-i.invariant c.if-byte
 
 pub overflow_mul-value : goal.overflow_mul-value
 overflow_mul-value c =
-    let g = c.shared_slice_known-in-loop-i-1.given c.loop-i.at in
+    let g = c.type_inv.bytes c.loop-i.at in
     omega (arith, following_small c.loop-i.invariant (c.wide-b.result - 128) (omega arith) c.loop-i-test.true)
 
 pub overflow_add-value : goal.overflow_add-value
 overflow_add-value c =
-    let g = c.shared_slice_known-in-loop-i-1.given c.loop-i.at in
+    let g = c.type_inv.bytes c.loop-i.at in
     omega (arith, following_small c.loop-i.invariant (c.wide-b.result - 128) (omega arith) c.loop-i-test.true)
 
 pub overflow_mul-scale : goal.overflow_mul-scale
@@ -39,7 +39,7 @@ overflow_mul-scale c = omega (arith, following_scale c.loop-i.invariant c.loop-i
 
 pub loop-i-preserved : goal.loop-i-preserved
 loop-i-preserved c =
-    let g = c.shared_slice_known-in-loop-i-1.given c.loop-i.at in
+    let g = c.type_inv.bytes c.loop-i.at in
     following_more c.loop-i.invariant c.if-bytes-at.false c.wide-b.ensures c.if-b-lt128.false (omega arith) c.loop-i-test.true
 
 pub returns-then-bytes-at-2 : goal.returns-then-bytes-at-2

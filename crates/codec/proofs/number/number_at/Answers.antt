@@ -13,7 +13,7 @@ returns-then-b-lt128 c = got_number (first_last _ _ c.if-bytes-at.false c.wide-b
 
 pub following-requires : goal.following-requires
 following-requires c =
-    let g = c.shared_slice_known-2-1.given c.args.at in
+    let g = c.type_inv.bytes c.args.at in
     omega (arith, g)
 
 pub returns : goal.returns

@@ -16,7 +16,7 @@ returns-then-first-lt128 c =
 
 pub following-number-requires : goal.following-number-requires
 following-number-requires c =
-    let g = c.shared_slice_known-2-1.given c.args.at in
+    let g = c.type_inv.bytes c.args.at in
     omega (arith, g)
 
 pub returns-in_default : goal.returns-in_default

@@ -1,0 +1,12 @@
+pub mod StepsLaws
+pub mod Counts
+pub mod Tidy
+pub mod Keep
+pub mod Opened
+pub mod Driver
+pub mod Closed
+pub mod History
+pub mod Single
+pub mod Holds
+pub mod Calls
+pub mod Joint

@@ -1,0 +1,37 @@
+use Rattle.std.proofs.Common.{rules}
+use mathlib.Core.Path.{sym, ◌∙◌}
+use native.Mathlib.Omega.{arith}
+use Rattle.codec.specs.Exact.{Bytes}
+use Rattle.in_bytes.specs.Call.{call}
+use Rattle.in_bytes.specs.BoundaryLaws.{not_whole, is_whole}
+use Rattle.in_bytes.specs.DecideLaws.{says_unread, says_numbers, decide_bad, decide_parts, call_lengths}
+use Rattle.in_bytes.proofs.decide.Goals as goal
+
+pub slice_bounds-kuxhoveza_transition-end : goal.slice_bounds-kuxhoveza_transition-end
+slice_bounds-kuxhoveza_transition-end c =
+    let bytes = c.args.bytes.now in
+    let good : Bytes bytes = record { each = λ n. omega (arith, c.type_inv.bytes n) } in
+    let w = is_whole _ (call.read bytes 0) c.read_call-place.ensures.value (sym c.ends.ensures ∙ c.if-ends.true) in
+    sym (call_lengths bytes w good c.read_call-place.ensures.call_stored).0
+
+pub slice_bounds-kuxhoveza_transition-end-then-ends : goal.slice_bounds-kuxhoveza_transition-end-then-ends
+slice_bounds-kuxhoveza_transition-end-then-ends c =
+    let bytes = c.args.bytes.now in
+    let good : Bytes bytes = record { each = λ n. omega (arith, c.type_inv.bytes n) } in
+    let w = is_whole _ (call.read bytes 0) c.read_call-place.ensures.value (sym c.ends.ensures ∙ c.if-ends.true) in
+    sym (call_lengths bytes w good c.read_call-place.ensures.call_stored).1
+
+pub returns-then-ends : goal.returns-then-ends
+returns-then-ends c =
+    let bytes = c.args.bytes.now in
+    let w = is_whole _ (call.read bytes 0) c.read_call-place.ensures.value (sym c.ends.ensures ∙ c.if-ends.true) in
+    let t = c.kuxhoveza_transition-receipt.ensures in
+    let s = says_numbers _ _ _ c.args.answer.now (search rules) t.value t.answer_after t.full (decide_parts bytes w c.read_call-place.ensures.call_stored) in
+    record { value = s.0; answer_after = s.1.0; of_64_bits = s.1.1 }
+
+pub returns : goal.returns
+returns c =
+    let bytes = c.args.bytes.now in
+    let b = not_whole _ (call.read bytes 0) c.read_call-place.ensures.value (sym c.ends.ensures ∙ c.if-ends.false) in
+    let s = says_unread c.args.answer.now (decide_bad bytes b) in
+    record { value = s.0; answer_after = s.1.0; of_64_bits = s.1.1 }

@@ -1,0 +1,12 @@
+use native.Mathlib.Omega.{arith}
+use Rattle.in_bytes.specs.RunLaws.{run_crowded, run_neat}
+use Rattle.in_bytes.proofs.run.run_tidy.Goals as goal
+
+pub returns-then-stored-gt-CAPACITY : goal.returns-then-stored-gt-CAPACITY
+returns-then-stored-gt-CAPACITY c = run_crowded c.args.xs.now c.args.at c.requires (λ n. omega (arith, c.type_inv.xs n)) c.if-stored-gt-CAPACITY.true
+
+pub returns : goal.returns
+returns c =
+    run_neat c.args.xs.now c.args.at c.requires (λ n. omega (arith, c.type_inv.xs n)) c.if-stored-gt-CAPACITY.false c.stored_end.ensures c.longs_zero.ensures
+    c.slots_tidy.ensures
+    c.slots_tidy-2.ensures

@@ -1,0 +1,7 @@
+use mathlib.Core.Path.{refl}
+use Rattle.in_bytes.specs.RunUsed.{unused}
+use Rattle.in_bytes.proofs.run.unused.Goals as goal
+
+pub returns : goal.returns
+unfolding unused
+returns c = refl
