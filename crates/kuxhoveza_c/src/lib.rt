@@ -2,9 +2,11 @@
 #![tactic(auto)]
 
 ghost use Rattle.std.specs.Prelude.{◌≡◌, length};
+ghost use Rattle.workflow.specs.Layout.{numbers as sheet_length};
 ghost use Rattle.host.specs.Layout.{layout_version, written};
 ghost use Rattle.host.specs.Write.{decision_numbers};
 ghost use Rattle.host.specs.Host.{receipt, decided, answered, Full, verdict_receipt, judged};
+ghost use Rattle.in_bytes.specs.Boundary.{returned, left, write_sheet, write_run, write_event, read_sheet, read_run, read_event, decide, decide_on, Of64Bits, call_bytes, call_bytes_on};
 
 use workflow::layout::NUMBERS;
 
@@ -46,4 +48,79 @@ pub extern "C" fn kuxhoveza_verdict(
     ensures out_after { out.new ≡ judged sheet.now sheet_len (record { nodes = nodes; visits = visits; activations = activations; attempts = attempts }) out.old }
 {
     host::kuxhoveza_verdict(sheet, sheet_len, nodes, visits, activations, attempts, out)
+}
+
+// SHEETS, RUNS AND EVENTS IN BYTES.
+
+#[unsafe(no_mangle)]
+pub extern "C" fn kuxhoveza_write_sheet(sheet: &[u32], out: &mut [u8]) -> u64
+    ensures value { result ≡ returned (write_sheet sheet.now (length out.old)) }
+    ensures out_after { out.new ≡ left (write_sheet sheet.now (length out.old)) out.old }
+{
+    in_bytes::kuxhoveza_write_sheet(sheet, out)
+}
+
+#[unsafe(no_mangle)]
+pub extern "C" fn kuxhoveza_read_sheet(bytes: &[u8], sheet: &mut [u32]) -> u64
+    ensures value { result ≡ returned (read_sheet bytes.now (length sheet.old)) }
+    ensures sheet_after { sheet.new ≡ left (read_sheet bytes.now (length sheet.old)) sheet.old }
+{
+    in_bytes::kuxhoveza_read_sheet(bytes, sheet)
+}
+
+#[unsafe(no_mangle)]
+pub extern "C" fn kuxhoveza_write_run(run: &[u64], out: &mut [u8]) -> u64
+    ensures value { result ≡ returned (write_run run.now (length out.old)) }
+    ensures out_after { out.new ≡ left (write_run run.now (length out.old)) out.old }
+{
+    in_bytes::kuxhoveza_write_run(run, out)
+}
+
+#[unsafe(no_mangle)]
+pub extern "C" fn kuxhoveza_read_run(bytes: &[u8], run: &mut [u64]) -> u64
+    ensures value { result ≡ returned (read_run bytes.now (length run.old)) }
+    ensures run_after { run.new ≡ left (read_run bytes.now (length run.old)) run.old }
+{
+    in_bytes::kuxhoveza_read_run(bytes, run)
+}
+
+#[unsafe(no_mangle)]
+pub extern "C" fn kuxhoveza_write_event(event: &[u64], out: &mut [u8]) -> u64
+    ensures value { result ≡ returned (write_event event.now (length out.old)) }
+    ensures out_after { out.new ≡ left (write_event event.now (length out.old)) out.old }
+{
+    in_bytes::kuxhoveza_write_event(event, out)
+}
+
+#[unsafe(no_mangle)]
+pub extern "C" fn kuxhoveza_read_event(bytes: &[u8], event: &mut [u64]) -> u64
+    ensures value { result ≡ returned (read_event bytes.now (length event.old)) }
+    ensures event_after { event.new ≡ left (read_event bytes.now (length event.old)) event.old }
+{
+    in_bytes::kuxhoveza_read_event(bytes, event)
+}
+
+// CALLS IN BYTES.
+
+#[unsafe(no_mangle)]
+pub extern "C" fn kuxhoveza_call(bytes: &[u8], out: &mut [u8]) -> u64
+    ensures value { result ≡ returned (call_bytes bytes.now (length out.old)) }
+    ensures out_after { out.new ≡ left (call_bytes bytes.now (length out.old)) out.old }
+    ensures of_64_bits { Of64Bits (decide bytes.now) }
+{
+    in_bytes::kuxhoveza_call(bytes, out)
+}
+
+#[unsafe(no_mangle)]
+pub extern "C" fn kuxhoveza_call_on(
+    sheet: &[u32; NUMBERS],
+    sheet_len: usize,
+    bytes: &[u8],
+    out: &mut [u8],
+) -> u64
+    ensures value { result ≡ returned (call_bytes_on sheet.now sheet_len bytes.now (length out.old)) }
+    ensures out_after { out.new ≡ left (call_bytes_on sheet.now sheet_len bytes.now (length out.old)) out.old }
+    ensures of_64_bits { sheet_len ≡ sheet_length → Of64Bits (decide_on sheet.now bytes.now) }
+{
+    in_bytes::kuxhoveza_call_on(sheet, sheet_len, bytes, out)
 }
