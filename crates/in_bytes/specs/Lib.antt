@@ -8,17 +8,7 @@ pub mod Boundary
 pub mod Structs
 pub mod CallStored
 -- laws
-pub mod SheetLaws
 pub mod StagesLoops
 pub mod RunLaws
 pub mod RunUsed
-pub mod AnswerLaws
-pub mod StagesLeft
-pub mod CallLaws
-pub mod RestSteps
-pub mod CallSteps
-pub mod EventLaws
 pub mod BoundaryLaws
-pub mod DecideLaws
-pub mod BothWays
-pub mod StructsLaws

@@ -19,7 +19,7 @@ use Rattle.codec.specs.Stages.{numbers, beside, Stage, staged}
 use Rattle.codec.specs.Exact.{not_bad}
 use Rattle.codec.specs.ReadLaws.{both_read}
 use Rattle.in_bytes.specs.Sheet.{sheet as sheet_shape}
-use Rattle.in_bytes.specs.SheetLaws.{sheet_exact, sheet_width}
+use Rattle.in_bytes.proofs.SheetLaws.{sheet_exact, sheet_width}
 use Rattle.in_bytes.specs.Run.{run}
 use Rattle.in_bytes.specs.RunLaws.{run_exact, run_width}
 use Rattle.in_bytes.specs.Call.{mark, given, event_numbers, answered, answers, rest as rest_shape, limits as limits_stage, the_sheet, the_rest, call, sheet_in, without_sheet, run_in, numbers_in}

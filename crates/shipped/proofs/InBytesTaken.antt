@@ -20,7 +20,7 @@ use Rattle.codec.specs.Stages.{numbers, column, beside, Stage, staged}
 use Rattle.codec.specs.Zeros.{padded_long}
 use Rattle.codec.specs.ColumnsLaws.{column_read}
 use Rattle.in_bytes.specs.Sheet.{sheet as sheet_shape}
-use Rattle.in_bytes.specs.SheetLaws.{sheet_exact}
+use Rattle.in_bytes.proofs.SheetLaws.{sheet_exact}
 use Rattle.in_bytes.specs.RunLaws.{run_exact, run_width}
 use Rattle.in_bytes.specs.Call.{mark, given, event_numbers, answered, answers, rest as rest_shape, limits as limits_stage, the_sheet, the_rest, call, without_sheet, run_in, numbers_in}
 use Rattle.in_bytes.specs.Boundary.{unread, ended, whole, on_numbers, decide}

@@ -1,7 +1,7 @@
 use mathlib.Core.Path.{ap, ◌∙◌}
 use Rattle.in_bytes.specs.Boundary.{Outcome, returned, left, decide}
 use Rattle.in_bytes.specs.BoundaryLaws.{refused_by}
-use Rattle.in_bytes.specs.DecideLaws.{told_said, told_unread}
+use Rattle.in_bytes.proofs.DecideLaws.{told_said, told_unread}
 use Rattle.in_bytes.proofs.kuxhoveza_call.Goals as goal
 
 pub returns-then-decide : goal.returns-then-decide

@@ -1,5 +1,5 @@
 use native.Mathlib.Omega.{arith}
-use Rattle.in_bytes.specs.AnswerLaws.{both_sizes, next_head, want_head, head_few}
+use Rattle.in_bytes.proofs.AnswerLaws.{both_sizes, next_head, want_head, head_few}
 use Rattle.in_bytes.proofs.answer.head_size.Goals as goal
 
 pub overflow_add-result : goal.overflow_add-result

@@ -1,7 +1,7 @@
 use mathlib.Core.Path.{refl}
 use native.Mathlib.Omega.{arith}
 use Rattle.std.proofs.Common.{rules}
-use Rattle.in_bytes.specs.AnswerLaws.{both_sizes, both_written, next_head, want_head}
+use Rattle.in_bytes.proofs.AnswerLaws.{both_sizes, both_written, next_head, want_head}
 use Rattle.in_bytes.proofs.answer.write_head.Goals as goal
 
 pub write_longs-place-requires : goal.write_longs-place-requires

@@ -1,7 +1,7 @@
 use Rattle.codec.specs.StoredLaws.{bad_place}
 use Rattle.codec.specs.Exact.{Bytes}
 use native.Mathlib.Omega.{arith}
-use Rattle.in_bytes.specs.CallSteps.{limits_bad, limited, limits_blank, sheet_bad, bad_call, call_read}
+use Rattle.in_bytes.proofs.CallSteps.{limits_bad, limited, limits_blank, sheet_bad, bad_call, call_read}
 use Rattle.in_bytes.proofs.call.read_call.Goals as goal
 
 pub returns-in_default : goal.returns-in_default

@@ -1,4 +1,4 @@
-use Rattle.in_bytes.specs.RestSteps.{one_given, none_place, none_stored}
+use Rattle.in_bytes.proofs.RestSteps.{one_given, none_place, none_stored}
 use Rattle.in_bytes.proofs.call.read_given.Goals as goal
 
 pub returns-then-has_record : goal.returns-then-has_record

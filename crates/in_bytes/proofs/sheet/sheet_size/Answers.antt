@@ -1,6 +1,6 @@
 use native.Mathlib.Omega.{arith}
 use Rattle.codec.specs.Stages.{total}
-use Rattle.in_bytes.specs.SheetLaws.{columns_tidy, sheet_size, sheet_few}
+use Rattle.in_bytes.proofs.SheetLaws.{columns_tidy, sheet_size, sheet_few}
 use Rattle.std.proofs.Common.{rules}
 use Rattle.in_bytes.proofs.sheet.sheet_size.Goals as goal
 

@@ -1,6 +1,6 @@
 use native.Mathlib.Omega.{arith}
 use Rattle.codec.specs.Stages.{total}
-use Rattle.in_bytes.specs.SheetLaws.{tidy_columns}
+use Rattle.in_bytes.proofs.SheetLaws.{tidy_columns}
 use Rattle.std.proofs.Common.{rules}
 use Rattle.in_bytes.proofs.sheet.sheet_tidy.Goals as goal
 

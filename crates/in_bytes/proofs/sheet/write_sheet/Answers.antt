@@ -1,6 +1,6 @@
 use native.Mathlib.Omega.{arith}
 use Rattle.codec.specs.Stages.{total}
-use Rattle.in_bytes.specs.SheetLaws.{columns_tidy, head_fits, columns_fit, both_written}
+use Rattle.in_bytes.proofs.SheetLaws.{columns_tidy, head_fits, columns_fit, both_written}
 use Rattle.std.proofs.Common.{rules}
 use Rattle.in_bytes.proofs.sheet.write_sheet.Goals as goal
 

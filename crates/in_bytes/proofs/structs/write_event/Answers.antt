@@ -1,7 +1,7 @@
 use mathlib.Core.Path.{ap, ◌∙◌}
 use lib.ListN.{length}
 use Rattle.in_bytes.specs.Boundary.{Outcome, returned, left}
-use Rattle.in_bytes.specs.StructsLaws.{event_written}
+use Rattle.in_bytes.proofs.StructsLaws.{event_written}
 use Rattle.in_bytes.proofs.structs.write_event.Goals as goal
 
 pub returns : goal.returns

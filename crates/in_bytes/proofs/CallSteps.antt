@@ -19,11 +19,11 @@ use Rattle.codec.specs.NumbersLaws.{numbers_long}
 use Rattle.codec.specs.StoredLaws.{at_got, at_bad, bad_place, got_place}
 use Rattle.codec.specs.Zeros.{zero_behind}
 use Rattle.in_bytes.specs.Sheet.{sheet}
-use Rattle.in_bytes.specs.SheetLaws.{sheet_exact, sheet_width}
+use Rattle.in_bytes.proofs.SheetLaws.{sheet_exact, sheet_width}
 use Rattle.in_bytes.specs.Call.{rest, limits, the_sheet, the_rest, call, call_on, sheet_in, without_sheet, run_in, numbers_in}
 use Rattle.in_bytes.specs.CallStored.{RestStored, CallStored, OnStored}
-use Rattle.in_bytes.specs.CallLaws.{rest_exact, rest_width}
-use Rattle.in_bytes.specs.StagesLeft.{read_long, same_read, Left, left_start, left_bad, left_more, left_end}
+use Rattle.in_bytes.proofs.CallLaws.{rest_exact, rest_width}
+use Rattle.in_bytes.proofs.StagesLeft.{read_long, same_read, Left, left_start, left_bad, left_more, left_end}
 
 -- THE PARTS of a call without its sheet: behind the limits stand the mark, the run, and what else it has.
 module _ (ls rs : List ℕ) (long : length ls ≡ layout.call_has_record) where

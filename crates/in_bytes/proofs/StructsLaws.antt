@@ -32,7 +32,7 @@ use Rattle.in_bytes.specs.Run.{single_numbers, stored_signals, all_visits, all_s
 use Rattle.in_bytes.specs.RunLaws.{run_width}
 use Rattle.in_bytes.specs.Event.{event, event_call, event_fits}
 use Rattle.in_bytes.specs.Boundary.{done, write_run, write_event, read_run, read_event}
-use Rattle.in_bytes.specs.BothWays.{passed, run_read, run_back, run_only, event_read, event_back as numbers_back, event_only as numbers_only}
+use Rattle.in_bytes.proofs.BothWays.{passed, run_read, run_back, run_only, event_read, event_back as numbers_back, event_only as numbers_only}
 use Rattle.in_bytes.specs.Structs.{streak_fields, result_fields, state_fields, of_state, of_event}
 
 -- THE NUMBERS OF A RUN. The fields of one stage behind another.

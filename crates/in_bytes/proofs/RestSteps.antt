@@ -30,8 +30,8 @@ use Rattle.codec.specs.Zeros.{zero_behind}
 use Rattle.in_bytes.specs.Run.{run}
 use Rattle.in_bytes.specs.Call.{mark, given_shape, given, event_numbers, answered, answers, rest}
 use Rattle.in_bytes.specs.CallStored.{RestStored}
-use Rattle.in_bytes.specs.CallLaws.{given_exact, given_width}
-use Rattle.in_bytes.specs.StagesLeft.{read_long, same_read, Left, left_start, left_bad, left_more, left_end}
+use Rattle.in_bytes.proofs.CallLaws.{given_exact, given_width}
+use Rattle.in_bytes.proofs.StagesLeft.{read_long, same_read, Left, left_start, left_bad, left_more, left_end}
 
 -- NUMBERS in two parts.
 module _ (top : ℕ) (bytes : List ℕ) where

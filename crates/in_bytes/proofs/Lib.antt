@@ -1,0 +1,10 @@
+pub mod SheetLaws
+pub mod AnswerLaws
+pub mod StagesLeft
+pub mod CallLaws
+pub mod RestSteps
+pub mod CallSteps
+pub mod EventLaws
+pub mod DecideLaws
+pub mod BothWays
+pub mod StructsLaws
