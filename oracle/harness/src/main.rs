@@ -9,7 +9,7 @@
 //!                                               the library's functions of bytes against a second reading of
 //!                                               docs/BYTES.md, on N calls and N damaged inputs a seed
 //! harness program [PATH] SEED.. [--damaged N] [--first]
-//!                                               the program (by default target/bin/kuxhoveza) against the same reading
+//!                                               the program (by default crates/kuxhoveza/out/kuxhoveza) against the same reading
 //!                                               and the plain one, on N damaged inputs a seed
 //! harness wrong SEED.. [--calls N]              after how many calls each wrong reading is found
 //! harness joint                                 the cases of Joint A on both
@@ -155,7 +155,7 @@ fn library(_: &Arguments) -> Result<bool, String> {
 use library as in_bytes;
 
 /// Where the program is, if its file isn't named.
-const PROGRAM: &str = concat!(env!("CARGO_MANIFEST_DIR"), "/../../target/bin/kuxhoveza");
+const PROGRAM: &str = concat!(env!("CARGO_MANIFEST_DIR"), "/../../crates/kuxhoveza/out/kuxhoveza");
 
 /// The first word is the program's file, unless it is a seed.
 fn program(words: &[String]) -> Result<bool, String> {
