@@ -6,7 +6,7 @@ use Rattle.std.proofs.Math.Bool.{true}
 use mathlib.Core.List.{List, [], ◌∷◌, ◌++◌, flat_map}
 use Rattle.std.proofs.Math.ListN.{length, length-take, length-drop}
 use borrow.Author.Tests.{ltb-false, le-ltb, leb-true, le-leb, eqb-true, eq-eqb}
-use Rattle.laws.specs.Bool.{if◌then◌else◌, split, both, join}
+use Rattle.laws.specs.Bool.{when◌then◌else◌, split, both, join}
 use Rattle.laws.specs.Listing.{padded}
 use Rattle.laws.specs.All.{All}
 use Rattle.codec.specs.Read.{Read, got, bad, onward}
@@ -51,7 +51,7 @@ module _ (top room used : ℕ) where
 
   -- A column is read as its numbers are.
   pub column_read : (bytes : List ℕ) (at : ℕ) → used ≤ room → (column top room used).read bytes at ≡ onward (numbers_at top used bytes at) (λ ns p. got (padded room 0 ns) p)
-  unfolding column if◌then◌else◌
+  unfolding column when◌then◌else◌
   column_read bytes at low = rw (le-ltb room used low)
 
   module _ (small : top ≤ 2 ^ 64) where
@@ -81,7 +81,7 @@ module _ (top room used : ℕ) where
           }
 
       only : (column top room used).read bytes at ≡ got ns next → IsRead (column top room used) bytes at ns next
-      unfolding column if◌then◌else◌
+      unfolding column when◌then◌else◌
       only e =
           split (ltb room used) (λ t. not_bad (rw t at e))
           (λ t. by_numbers (ltb-false room used t) (numbers_at top used bytes at) refl (rw t at e))

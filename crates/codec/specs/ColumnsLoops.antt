@@ -8,7 +8,7 @@ use Rattle.std.proofs.Math.Dec.{ltb}
 use Rattle.std.proofs.Math.ListN.{get_or, drop}
 use Rattle.std.proofs.Math.Seq.{drop-drop}
 use borrow.Author.Tests.{lt-ltb, le-leb, lt-leb, eq-eqb, not-true, not-false}
-use Rattle.laws.specs.Bool.{if◌then◌else◌, ◌and◌}
+use Rattle.laws.specs.Bool.{when◌then◌else◌, ◌and◌}
 use Rattle.laws.specs.Splice.{splice}
 use Rattle.laws.specs.Listing.{padded}
 use Rattle.codec.specs.declared.numbers.Place.{Place}
@@ -45,7 +45,7 @@ module _ (top : ℕ) (rooms used : List ℕ) (c : ℕ) where
 
 -- ONE COLUMN READ. A count above its room; the numbers in a list that is zero from there on.
 pub column_over : (top room used : ℕ) (bytes : List ℕ) (at : ℕ) → room < used → (column top room used).read bytes at ≡ bad
-unfolding column if◌then◌else◌
+unfolding column when◌then◌else◌
 column_over top room used bytes at h = rw (lt-ltb room used h)
 
 module _ (top room used : ℕ) (bytes : List ℕ) (at : ℕ) (low : used ≤ room) where

@@ -11,7 +11,7 @@ use Rattle.std.proofs.Math.Dec.{ltb}
 use Rattle.std.proofs.Math.ListN.{drop_of_length-le}
 use Rattle.std.proofs.Math.Seq.{drop-cons}
 use borrow.Author.Tests.{ltb-true, lt-ltb, le-ltb, eqb-true, eqb-false, ne_eqb}
-use Rattle.laws.specs.Bool.{if◌then◌else◌, split}
+use Rattle.laws.specs.Bool.{when◌then◌else◌, split}
 use Rattle.laws.specs.Splice.{splice, splice_one, splice_more}
 use Rattle.codec.specs.Read.{Read, got, bad, onward}
 use Rattle.codec.specs.Leb.{groups, leb128, parse, number_at}
@@ -19,8 +19,8 @@ use Rattle.codec.specs.Groups.{above, followed}
 use Rattle.codec.specs.LebLaws.{groups_some}
 
 -- READING. A group b in front of others.
-above_more : (low scale at b : ℕ) (r : Read ℕ) → 128 ≤ b → above low scale at (onward r (λ n size. if eqb n 0 then bad else got (b - 128 + 128 * n) (suc size))) ≡ above (low + scale * (b - 128)) (scale * 128) (at + 1) r
-unfolding above onward if◌then◌else◌
+above_more : (low scale at b : ℕ) (r : Read ℕ) → 128 ≤ b → above low scale at (onward r (λ n size. when eqb n 0 then bad else got (b - 128 + 128 * n) (suc size))) ≡ above (low + scale * (b - 128)) (scale * 128) (at + 1) r
+unfolding above onward when◌then◌else◌
 above_more low scale at b bad h = refl
 above_more low scale at b (got n size) h =
     split (eqb n 0) (λ z. rw z)
@@ -73,7 +73,7 @@ module _ {bytes : List ℕ} {whole : Read ℕ} {value scale at i : ℕ} (inv : F
 
   -- the group b that stands there
   module _ {b : ℕ} (there : at < length bytes) (is : b ≡ get_or bytes at 0) where
-    seen : above value scale at (if ltb b 128 then got b 1 else onward (parse (9 - i) (drop (at + 1) bytes)) (λ n size. if eqb n 0 then bad else got (b - 128 + 128 * n) (suc size))) ≡ whole
+    seen : above value scale at (when ltb b 128 then got b 1 else onward (parse (9 - i) (drop (at + 1) bytes)) (λ n size. when eqb n 0 then bad else got (b - 128 + 128 * n) (suc size))) ≡ whole
     unfolding parse
     seen =
         let f = inv.few in
@@ -81,21 +81,21 @@ module _ {bytes : List ℕ} {whole : Read ℕ} {value scale at i : ℕ} (inv : F
         rw (is, add-one) (rw (e, drop-cons bytes at 0 there) at inv.left)
 
     pub following_zero : b ≡ 0 → whole ≡ bad
-    unfolding above onward if◌then◌else◌
+    unfolding above onward when◌then◌else◌
     following_zero h = sym (rw h at seen)
 
-    last : b < 128 → (b ≡ 0 → ⊥) → (if ltb (value + scale * b) (2 ^ 64) then got (value + scale * b) (at + 1) else bad) ≡ whole
-    unfolding above onward if◌then◌else◌
+    last : b < 128 → (b ≡ 0 → ⊥) → (when ltb (value + scale * b) (2 ^ 64) then got (value + scale * b) (at + 1) else bad) ≡ whole
+    unfolding above onward when◌then◌else◌
     last h n = rw (lt-ltb b 128 h, ne_eqb b 0 n) at seen
 
     pub following_last : b < 128 → (b ≡ 0 → ⊥) → i < 9 → whole ≡ got (value + scale * b) (at + 1)
-    unfolding if◌then◌else◌
+    unfolding when◌then◌else◌
     following_last h n l =
         let t : ltb (value + scale * b) (2 ^ 64) ≡ true = lt-ltb (value + scale * b) (2 ^ 64) (omega (arith, following_small b h l)) in
         sym (rw t at (last h n))
 
     pub following_more : 128 ≤ b → b < 256 → i < 9 → Following bytes whole (value + scale * (b - 128)) (scale * 128) (at + 1) (i + 1)
-    unfolding if◌then◌else◌
+    unfolding when◌then◌else◌
     following_more h u l =
         let e : 10 - (i + 1) ≡ 9 - i = omega arith in
         let s = inv.power in
@@ -111,7 +111,7 @@ module _ {bytes : List ℕ} {whole : Read ℕ} {value scale at i : ℕ} (inv : F
 
     -- the tenth group
     pub following_one : b ≡ 1 → 9 ≤ i → whole ≡ got (value + scale) (at + 1)
-    unfolding if◌then◌else◌
+    unfolding when◌then◌else◌
     following_one h l =
         let a : scale * 1 ≡ scale = omega arith in
         let c = following_ninth l in
@@ -120,7 +120,7 @@ module _ {bytes : List ℕ} {whole : Read ℕ} {value scale at i : ℕ} (inv : F
         sym (rw (h, a, t) at (last (omega arith) (λ (z : b ≡ 0). omega arith)))
 
     pub following_over : (b ≡ 1 → ⊥) → 9 ≤ i → whole ≡ bad
-    unfolding if◌then◌else◌ above onward parse
+    unfolding when◌then◌else◌ above onward parse
     following_over n l =
         let c = following_ninth l in
         let f = inv.few in
@@ -143,30 +143,30 @@ module _ (bytes : List ℕ) (at : ℕ) where
 
   module _ {b : ℕ} (there : at < length bytes) (is : b ≡ get_or bytes at 0) where
     pub first_last : b < 128 → number_at bytes at ≡ got b (at + 1)
-    unfolding number_at parse onward if◌then◌else◌
+    unfolding number_at parse onward when◌then◌else◌
     first_last h =
         let t : ltb (get_or bytes at 0) 128 ≡ true = lt-ltb (get_or bytes at 0) 128 (omega arith) in
         let u : ltb (get_or bytes at 0) (2 ^ 64) ≡ true = lt-ltb (get_or bytes at 0) (2 ^ 64) (omega arith) in
         rw (drop-cons bytes at 0 there, t, u, is)
 
-    others : (r : Read ℕ) → above (b - 128) 128 (at + 1) r ≡ onward (onward r (λ n size. if eqb n 0 then bad else got (b - 128 + 128 * n) (suc size))) (λ n size. if ltb n (2 ^ 64) then got n (at + size) else bad)
-    unfolding above onward if◌then◌else◌
+    others : (r : Read ℕ) → above (b - 128) 128 (at + 1) r ≡ onward (onward r (λ n size. when eqb n 0 then bad else got (b - 128 + 128 * n) (suc size))) (λ n size. when ltb n (2 ^ 64) then got n (at + size) else bad)
+    unfolding above onward when◌then◌else◌
     others bad = refl
     others (got n size) = split (eqb n 0) (λ z. rw z) (λ z. let p : at + suc size ≡ at + 1 + size = omega arith in rw (z, p))
 
     pub first_more : 128 ≤ b → followed (b - 128) bytes (at + 1) ≡ number_at bytes at
-    unfolding followed number_at parse if◌then◌else◌
+    unfolding followed number_at parse when◌then◌else◌
     first_more h =
         let t : ltb (get_or bytes at 0) 128 ≡ false = le-ltb (get_or bytes at 0) 128 (omega arith) in
         others (parse 9 (drop (at + 1) bytes)) ∙ rw (drop-cons bytes at 0 there, t, add-one, is)
 
 -- COUNTING AND WRITING. The groups of what is left of a number, with k more behind the next.
 groups_last : (k n : ℕ) → n < 128 → groups (suc k) n ≡ n ∷ []
-unfolding groups if◌then◌else◌
+unfolding groups when◌then◌else◌
 groups_last k n h = rw (lt-ltb n 128 h)
 
 groups_more : (k n : ℕ) → 128 ≤ n → groups (suc k) n ≡ (n % 128 + 128) ∷ groups k (n / 128)
-unfolding groups if◌then◌else◌
+unfolding groups when◌then◌else◌
 groups_more k n h = rw (le-ltb n 128 h)
 
 one_more : (k n : ℕ) → 128 ≤ n → n < 128 ^ suc k → (k ≡ 0 → ⊥) × (n / 128 < 128 ^ k)

@@ -9,19 +9,19 @@ use Rattle.std.proofs.Math.Nat.{pow-suc, one-le-pow}
 use native.Mathlib.Omega.{arith}
 use Rattle.std.proofs.Math.Dec.{ltb}
 use borrow.Author.Tests.{ltb-true, ltb-false, lt-ltb, le-ltb, eqb-false, ne_eqb}
-use Rattle.laws.specs.Bool.{if◌then◌else◌, split}
+use Rattle.laws.specs.Bool.{when◌then◌else◌, split}
 use Rattle.codec.specs.Read.{Read, got, bad, onward}
 use Rattle.codec.specs.Leb.{groups, leb128, parse, number_at}
 use Rattle.codec.specs.Exact.{Bytes, not_bad}
 
 -- HOW MANY GROUPS.
 groups_few : (k n : ℕ) → length (groups k n) ≤ k
-unfolding groups if◌then◌else◌
+unfolding groups when◌then◌else◌
 groups_few zero n = omega arith
 groups_few (suc k) n = split (ltb n 128) (λ h. rw h (omega arith)) (λ h. let i = groups_few k (n / 128) in rw h (omega arith))
 
 pub groups_some : (k n : ℕ) → 1 ≤ length (groups (suc k) n)
-unfolding groups if◌then◌else◌
+unfolding groups when◌then◌else◌
 groups_some k n = split (ltb n 128) (λ h. rw h (omega arith)) (λ h. rw h (omega arith))
 
 pub leb_few : (n : ℕ) → length (leb128 n) ≤ 10
@@ -34,7 +34,7 @@ leb_some n = groups_some 9 n
 
 -- READ BACK, whatever stands behind it.
 groups_back : (k n : ℕ) (rest : List ℕ) → n < 128 ^ suc k → parse (suc k) (groups (suc k) n ++ rest) ≡ got n (length (groups (suc k) n))
-unfolding groups parse onward if◌then◌else◌
+unfolding groups parse onward when◌then◌else◌
 groups_back zero n rest h = let t : ltb n 128 ≡ true = lt-ltb n 128 h in rw (t, t)
 groups_back (suc k) n rest h =
     split (ltb n 128) (λ t. rw (t, t))
@@ -47,7 +47,7 @@ groups_back (suc k) n rest h =
     rw (f, b, groups_back k (n / 128) rest (omega arith), z, v))
 
 pub number_back : (bytes rest : List ℕ) (at n : ℕ) → n < 2 ^ 64 → drop at bytes ≡ leb128 n ++ rest → number_at bytes at ≡ got n (at + length (leb128 n))
-unfolding number_at leb128 onward if◌then◌else◌
+unfolding number_at leb128 onward when◌then◌else◌
 number_back bytes rest at n h e = rw (e, groups_back 9 n rest (omega arith), lt-ltb n (2 ^ 64) h)
 
 -- ONLY WHAT IS WRITTEN. The bytes begin with the groups of n, size of them.
@@ -59,7 +59,7 @@ record Begins (k : ℕ) (bytes : List ℕ) (n size : ℕ) : Type 0 where
 module _ (k b : ℕ) (bytes : List ℕ) (n size : ℕ) where
   -- one group
   one : b < 128 → got b 1 ≡ got n size → Begins (suc k) (b ∷ bytes) n size
-  unfolding groups if◌then◌else◌
+  unfolding groups when◌then◌else◌
   one h e =
       let x : b ≡ n = cc in
       let y : 1 ≡ size = cc in
@@ -69,8 +69,8 @@ module _ (k b : ℕ) (bytes : List ℕ) (n size : ℕ) where
       record { is = rw (← y, t, x); long = rw t (sym y); small = omega arith }
 
   -- a group before others
-  more : 128 ≤ b → b < 256 → (r : Read ℕ) → ((m s : ℕ) → r ≡ got m s → Begins k bytes m s) → onward r (λ m s. if eqb m 0 then bad else got (b - 128 + 128 * m) (suc s)) ≡ got n size → Begins (suc k) (b ∷ bytes) n size
-  unfolding groups onward if◌then◌else◌
+  more : 128 ≤ b → b < 256 → (r : Read ℕ) → ((m s : ℕ) → r ≡ got m s → Begins k bytes m s) → onward r (λ m s. when eqb m 0 then bad else got (b - 128 + 128 * m) (suc s)) ≡ got n size → Begins (suc k) (b ∷ bytes) n size
+  unfolding groups onward when◌then◌else◌
   more l u bad f e = not_bad e
   more l u (got m s) f e =
       split (eqb m 0) (λ z. not_bad (rw z at e))
@@ -88,7 +88,7 @@ module _ (k b : ℕ) (bytes : List ℕ) (n size : ℕ) where
       record { is = rw (← y, c, v, w) (ap (λ (r : List ℕ). b ∷ r) i.is); long = rw (c, w) (sym y ∙ ap suc i.long); small = omega arith })
 
 groups_only : (k : ℕ) (bytes : List ℕ) (n size : ℕ) → ((i : ℕ) → get_or bytes i 0 < 256) → parse k bytes ≡ got n size → Begins k bytes n size
-unfolding parse if◌then◌else◌
+unfolding parse when◌then◌else◌
 groups_only zero bytes n size good e = not_bad e
 groups_only (suc k) [] n size good e = not_bad e
 groups_only (suc k) (b ∷ bytes) n size good e =
@@ -101,8 +101,8 @@ pub record NumberRead (bytes : List ℕ) (at n next : ℕ) : Type 0 where
   pub place : next ≡ at + length (leb128 n)
   pub small : n < 2 ^ 64
 
-by_parse : (bytes : List ℕ) (at n next : ℕ) (r : Read ℕ) → ((m s : ℕ) → r ≡ got m s → Begins 10 (drop at bytes) m s) → onward r (λ m s. if ltb m (2 ^ 64) then got m (at + s) else bad) ≡ got n next → NumberRead bytes at n next
-unfolding onward leb128 if◌then◌else◌
+by_parse : (bytes : List ℕ) (at n next : ℕ) (r : Read ℕ) → ((m s : ℕ) → r ≡ got m s → Begins 10 (drop at bytes) m s) → onward r (λ m s. when ltb m (2 ^ 64) then got m (at + s) else bad) ≡ got n next → NumberRead bytes at n next
+unfolding onward leb128 when◌then◌else◌
 by_parse bytes at n next bad f e = not_bad e
 by_parse bytes at n next (got m s) f e =
     split (ltb m (2 ^ 64))

@@ -6,7 +6,7 @@ use mathlib.Core.List.{List, [], ◌∷◌, ◌++◌, flat_map, append_assoc}
 use Prim.Native.Nat.{ℕ, zero, suc, ◌+◌, ◌^◌, ◌≤◌, ◌<◌}
 use Rattle.std.proofs.Math.ListN.{length, drop, length-append}
 use borrow.Author.Tests.{ltb-true, lt-ltb, le-ltb, eqb-true, eq-eqb}
-use Rattle.laws.specs.Bool.{if◌then◌else◌, split, both, join}
+use Rattle.laws.specs.Bool.{when◌then◌else◌, split, both, join}
 use Rattle.laws.specs.Every.{every}
 use Rattle.codec.specs.Read.{Read, got, bad, onward, tested}
 use Rattle.codec.specs.Leb.{leb128, parse, number_at}
@@ -18,17 +18,17 @@ use Rattle.codec.specs.LebLaws.{NumberRead, number_back, number_only}
 -- ONE NUMBER BELOW TOP.
 module _ (top : ℕ) where
   pub below_back : (bytes rest : List ℕ) (at n : ℕ) → top ≤ 2 ^ 64 → n < top → drop at bytes ≡ leb128 n ++ rest → number_below top bytes at ≡ got n (at + length (leb128 n))
-  unfolding tested onward if◌then◌else◌
+  unfolding tested onward when◌then◌else◌
   below_back bytes rest at n t h e = rw (number_back bytes rest at n (omega arith) e, lt-ltb n top h)
 
   -- what was read passes the test, or doesn't
   module _ {r : Read ℕ} where
     pub below_got : {n next : ℕ} → r ≡ got n next → n < top → tested (λ m. ltb m top) r ≡ got n next
-    unfolding tested onward if◌then◌else◌
+    unfolding tested onward when◌then◌else◌
     below_got {n} e h = rw (e, lt-ltb n top h)
 
     pub below_over : {n next : ℕ} → r ≡ got n next → top ≤ n → tested (λ m. ltb m top) r ≡ bad
-    unfolding tested onward if◌then◌else◌
+    unfolding tested onward when◌then◌else◌
     below_over {n} e h = rw (e, le-ltb n top h)
 
     pub below_bad : r ≡ bad → tested (λ m. ltb m top) r ≡ bad
@@ -37,7 +37,7 @@ module _ (top : ℕ) where
 
   -- what passed the test was read, and is below top
   pub tested_below : (n next : ℕ) (r : Read ℕ) → tested (λ m. ltb m top) r ≡ got n next → (r ≡ got n next) × (n < top)
-  unfolding tested onward if◌then◌else◌
+  unfolding tested onward when◌then◌else◌
   tested_below n next bad e = not_bad e
   tested_below n next (got m p) e =
       split (ltb m top)
@@ -53,8 +53,8 @@ module _ (top : ℕ) where
       (number_only bytes at n next good b.0, b.1)
 
 -- every number that is read has 64 bits
-passes : (at : ℕ) (r : Read ℕ) → tested (λ n. ltb n (2 ^ 64)) (onward r (λ n size. if ltb n (2 ^ 64) then got n (at + size) else bad)) ≡ onward r (λ n size. if ltb n (2 ^ 64) then got n (at + size) else bad)
-unfolding tested onward if◌then◌else◌
+passes : (at : ℕ) (r : Read ℕ) → tested (λ n. ltb n (2 ^ 64)) (onward r (λ n size. when ltb n (2 ^ 64) then got n (at + size) else bad)) ≡ onward r (λ n size. when ltb n (2 ^ 64) then got n (at + size) else bad)
+unfolding tested onward when◌then◌else◌
 passes at bad = refl
 passes at (got n size) = split (ltb n (2 ^ 64)) (λ t. rw (t, t)) (λ t. rw t)
 

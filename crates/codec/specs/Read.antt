@@ -1,6 +1,6 @@
 -- What is read from bytes at a place: a value and the place behind it; or the bytes are bad.
 use Rattle.std.specs.Prelude.{Bool, ℕ}
-use Rattle.laws.specs.Bool.{if◌then◌else◌}
+use Rattle.laws.specs.Bool.{when◌then◌else◌}
 
 pub data Read (A : Type 0) : Type 0 where
   got : A → (next : ℕ) → Read A
@@ -13,4 +13,4 @@ onward bad more = bad
 
 -- What is read must pass a test.
 unfoldable pub tested : {A : Type 0} → (A → Bool) → Read A → Read A
-tested fits read = onward read (λ x next. if fits x then got x next else bad)
+tested fits read = onward read (λ x next. when fits x then got x next else bad)

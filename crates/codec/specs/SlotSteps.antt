@@ -4,7 +4,7 @@ use Rattle.std.proofs.Common.{sym, ap, ◌∙◌, arith, length-set, length-appe
 use mathlib.Core.List.{List, [], ◌∷◌, ◌++◌, flat_map, append_assoc, append-nil}
 use Prim.Native.Nat.{ℕ, suc, ◌+◌, ◌*◌, ◌-◌, ◌≤◌, ◌<◌}
 use borrow.Author.Tests.{eqb-true, eqb-false, eq-eqb, ne_eqb}
-use Rattle.laws.specs.Bool.{if◌then◌else◌, split, ◌and◌}
+use Rattle.laws.specs.Bool.{when◌then◌else◌, split, ◌and◌}
 use Rattle.laws.specs.Listing.{padded}
 use Rattle.laws.specs.Splice.{splice, splice_none, splice_one, splice_more, length_splice}
 use Rattle.codec.specs.Read.{Read, got, bad, onward}
@@ -41,7 +41,7 @@ module _ (top before after : ℕ) (bytes : List ℕ) (at : ℕ) where
 
   module _ {lead p : ℕ} (lead_read : number_below top bytes at ≡ got lead p) where
     pub unused_read : lead ≡ 0 → (slot top before after).read bytes at ≡ got (replicate (before + suc after) 0) p
-    unfolding slot onward if◌then◌else◌
+    unfolding slot onward when◌then◌else◌
     unused_read z = rw (lead_read, eq-eqb lead 0 z)
 
     pub unused_stored : {list : List ℕ} {first : ℕ} → lead ≡ 0 → ZeroFrom first list → first + (before + suc after) ≤ length list → Stored ((slot top before after).read bytes at) list first list
@@ -57,7 +57,7 @@ module _ (top before after : ℕ) (bytes : List ℕ) (at : ℕ) where
 
     module _ (used : lead ≡ 0 → ⊥) where
       used_read : (slot top before after).read bytes at ≡ onward (numbers_at top before bytes p) (λ xs q. onward (numbers_at top after bytes q) (λ ys r. got (xs ++ (lead ∷ ys)) r))
-      unfolding slot onward if◌then◌else◌
+      unfolding slot onward when◌then◌else◌
       used_read = rw (lead_read, ne_eqb lead 0 used)
 
       pub used_bad : numbers_at top before bytes p ≡ bad → (slot top before after).read bytes at ≡ bad
@@ -127,16 +127,16 @@ module _ (top before after : ℕ) (xs : List ℕ) (first : ℕ) (room : first + 
   whole = bytes_of ((slot top before after).fields here)
 
   unused_bytes : lead ≡ 0 → whole ≡ leb128 lead
-  unfolding slot if◌then◌else◌ flat_map
+  unfolding slot when◌then◌else◌ flat_map
   unused_bytes z = rw (lead_here, eq-eqb lead 0 z, z) (append-nil (leb128 0))
 
   used_bytes : (lead ≡ 0 → ⊥) → whole ≡ leb128 lead ++ (bytes_of front ++ bytes_of back)
-  unfolding slot if◌then◌else◌ flat_map
+  unfolding slot when◌then◌else◌ flat_map
   used_bytes u = rw (lead_here, ne_eqb lead 0 u, front_here, back_here, bytes_append front back)
 
   -- How many they are.
   pub unused_size : lead ≡ 0 → 1 ≡ length whole
-  unfolding leb128 groups if◌then◌else◌
+  unfolding leb128 groups when◌then◌else◌
   unused_size z = rw (unused_bytes z, z)
 
   pub used_size : (lead ≡ 0 → ⊥) → length (leb128 lead) + length (bytes_of front) + length (bytes_of back) ≡ length whole
@@ -149,16 +149,16 @@ module _ (top before after : ℕ) (xs : List ℕ) (first : ℕ) (room : first + 
 
   -- Whether it is tidy.
   module _ (each : (i : ℕ) → get_or xs i 0 < top) where
-    tidy_here : (slot top before after).tidy here ≡ (if eqb lead 0 then all_zero here else true)
+    tidy_here : (slot top before after).tidy here ≡ (when eqb lead 0 then all_zero here else true)
     unfolding slot ◌and◌
     tidy_here = rw (eq-eqb _ _ (part_long xs first (before + suc after) room), part_below top xs first (first + (before + suc after)) each, lead_here)
 
     pub unused_tidy : lead ≡ 0 → (slot top before after).tidy here ≡ all_zero here
-    unfolding if◌then◌else◌
+    unfolding when◌then◌else◌
     unused_tidy z = tidy_here ∙ rw (eq-eqb lead 0 z)
 
     pub used_tidy : (lead ≡ 0 → ⊥) → (slot top before after).tidy here ≡ true
-    unfolding if◌then◌else◌
+    unfolding when◌then◌else◌
     used_tidy u = tidy_here ∙ rw (ne_eqb lead 0 u)
 
   -- Its bytes written: the lead first, and where it is not 0 the numbers before it and those after it.

@@ -1,6 +1,6 @@
 -- Slots of a fixed width, each with a lead: where the lead is 0 the slot is unused, and all of it is 0.
 use Rattle.std.specs.Prelude.{true, [], ◌∷◌, ◌++◌, ℕ, zero, suc, ◌+◌, ◌*◌, eqb, length, get_or, take, drop, replicate}
-use Rattle.laws.specs.Bool.{if◌then◌else◌, ◌and◌}
+use Rattle.laws.specs.Bool.{when◌then◌else◌, ◌and◌}
 use Rattle.codec.specs.Read.{got, onward}
 use Rattle.codec.specs.Numbers.{number_below, numbers_at, all_below}
 use Rattle.codec.specs.Stages.{Shape, numbers, beside, all_zero}
@@ -11,10 +11,10 @@ slot top before after =
     record {
       width = before + suc after;
       read = λ bytes at. onward (number_below top bytes at) (λ lead p.
-          if eqb lead 0 then got (replicate (before + suc after) 0) p else
+          when eqb lead 0 then got (replicate (before + suc after) 0) p else
           onward (numbers_at top before bytes p) (λ xs q. onward (numbers_at top after bytes q) (λ ys r. got (xs ++ (lead ∷ ys)) r)));
-      fields = λ ns. if eqb (get_or ns before 0) 0 then 0 ∷ [] else get_or ns before 0 ∷ take before ns ++ drop (suc before) ns;
-      tidy = λ ns. eqb (length ns) (before + suc after) and all_below top ns and (if eqb (get_or ns before 0) 0 then all_zero ns else true);
+      fields = λ ns. when eqb (get_or ns before 0) 0 then 0 ∷ [] else get_or ns before 0 ∷ take before ns ++ drop (suc before) ns;
+      tidy = λ ns. eqb (length ns) (before + suc after) and all_below top ns and (when eqb (get_or ns before 0) 0 then all_zero ns else true);
     }
 
 unfoldable pub slots : (top before after k : ℕ) → Shape

@@ -11,7 +11,7 @@ use Rattle.std.proofs.Math.ListN.{length, get_or, take, drop, replicate, length-
 use Rattle.std.proofs.lemmas.List.{length-replicate}
 use Rattle.std.proofs.Math.Seq.{length-take-le, take_at, get_or_at, split_at, drop-append-add}
 use borrow.Author.Tests.{ltb-true, lt-ltb, eqb-true, eq-eqb}
-use Rattle.laws.specs.Bool.{if◌then◌else◌, split, both, join}
+use Rattle.laws.specs.Bool.{when◌then◌else◌, split, both, join}
 use Rattle.laws.specs.Every.{every, every_append}
 use Rattle.codec.specs.Read.{Read, got, onward}
 use Rattle.codec.specs.Leb.{leb128}
@@ -51,7 +51,7 @@ used_bytes lead xs ys = rw (bytes_append xs ys)
 -- How many bytes it takes: at most ten a number.
 module _ (top before after : ℕ) (ns : List ℕ) where
   fields_few : length ns ≤ before + suc after → length ((slot top before after).fields ns) ≤ before + suc after
-  unfolding slot if◌then◌else◌
+  unfolding slot when◌then◌else◌
   fields_few h =
       let t = length-take before ns in
       let d = length-drop (suc before) ns in
@@ -69,7 +69,7 @@ module _ (top before after : ℕ) (small : top ≤ 2 ^ 64) where
   used bytes lead p = onward (numbers_at top before bytes p) (λ xs q. onward (numbers_at top after bytes q) (λ ys r. got (xs ++ (lead ∷ ys)) r))
 
   abbrev behind_lead : List ℕ → (lead p : ℕ) → Read (List ℕ)
-  behind_lead bytes lead p = if eqb lead 0 then got (replicate (before + suc after) 0) p else used bytes lead p
+  behind_lead bytes lead p = when eqb lead 0 then got (replicate (before + suc after) 0) p else used bytes lead p
 
   tidy_long : (ns : List ℕ) → (slot top before after).tidy ns ≡ true → length ns ≡ (slot top before after).width
   unfolding slot
@@ -81,7 +81,7 @@ module _ (top before after : ℕ) (small : top ≤ 2 ^ 64) where
     lead_below = ltb-true (get_or ns before 0) top (every_at _ ns before below (omega arith))
 
     back_unused : get_or ns before 0 ≡ 0 → all_zero ns ≡ true → drop at bytes ≡ bytes_of (0 ∷ []) ++ rest → onward (number_below top bytes at) (behind_lead bytes) ≡ got ns (at + length (bytes_of (0 ∷ [])))
-    unfolding onward if◌then◌else◌ flat_map
+    unfolding onward when◌then◌else◌ flat_map
     back_unused z h e =
         let l = lead_below in
         let o : bytes_of (0 ∷ []) ≡ leb128 0 = append-nil (leb128 0) in
@@ -90,7 +90,7 @@ module _ (top before after : ℕ) (small : top ≤ 2 ^ 64) where
         rw (i, o, r)
 
     back_used : (lead : ℕ) → lead ≡ get_or ns before 0 → eqb lead 0 ≡ false → drop at bytes ≡ bytes_of (lead ∷ take before ns ++ drop (suc before) ns) ++ rest → onward (number_below top bytes at) (behind_lead bytes) ≡ got ns (at + length (bytes_of (lead ∷ take before ns ++ drop (suc before) ns)))
-    unfolding onward if◌then◌else◌ numbers
+    unfolding onward when◌then◌else◌ numbers
     back_used lead is z e =
         let xs = take before ns in
         let ys = drop (suc before) ns in
@@ -114,7 +114,7 @@ module _ (top before after : ℕ) (small : top ≤ 2 ^ 64) where
         rw (i, z, j, k, w, m)
 
   back : (bytes rest ns : List ℕ) (at : ℕ) → (slot top before after).tidy ns ≡ true → drop at bytes ≡ bytes_of ((slot top before after).fields ns) ++ rest → (slot top before after).read bytes at ≡ got ns (at + length (bytes_of ((slot top before after).fields ns)))
-  unfolding slot if◌then◌else◌
+  unfolding slot when◌then◌else◌
   back bytes rest ns at h e =
       let t = both _ _ h in
       let u = both _ _ t.1 in
@@ -126,7 +126,7 @@ module _ (top before after : ℕ) (small : top ≤ 2 ^ 64) where
   -- ONLY WHAT IS WRITTEN.
   module _ (bytes ns : List ℕ) (at next : ℕ) (good : Bytes bytes) where
     only_unused : (lead p : ℕ) → NumberRead bytes at lead p × (lead < top) → eqb lead 0 ≡ true → got (replicate (before + suc after) 0) p ≡ got ns next → IsRead (slot top before after) bytes at ns next
-    unfolding slot if◌then◌else◌ flat_map
+    unfolding slot when◌then◌else◌ flat_map
     only_unused lead p (i, l) z e =
         let zs : List ℕ = replicate (before + suc after) 0 in
         let x : zs ≡ ns = cc in
@@ -144,7 +144,7 @@ module _ (top before after : ℕ) (small : top ≤ 2 ^ 64) where
         }
 
     only_used : (lead p : ℕ) → NumberRead bytes at lead p × (lead < top) → eqb lead 0 ≡ false → (xs : List ℕ) (q : ℕ) → IsRead (numbers top before) bytes p xs q → (ys : List ℕ) (r : ℕ) → IsRead (numbers top after) bytes q ys r → got (xs ++ (lead ∷ ys)) r ≡ got ns next → IsRead (slot top before after) bytes at ns next
-    unfolding slot if◌then◌else◌ numbers every
+    unfolding slot when◌then◌else◌ numbers every
     only_used lead p (i, l) z xs q j ys r k e =
         let x : xs ++ (lead ∷ ys) ≡ ns = cc in
         let y : r ≡ next = cc in
@@ -168,7 +168,7 @@ module _ (top before after : ℕ) (small : top ≤ 2 ^ 64) where
         }
 
     only : (slot top before after).read bytes at ≡ got ns next → IsRead (slot top before after) bytes at ns next
-    unfolding slot if◌then◌else◌ numbers
+    unfolding slot when◌then◌else◌ numbers
     only e =
         let a = both_read (number_below top bytes at) (behind_lead bytes) e in
         let i = below_only top bytes at a.value a.place good a.one in
@@ -187,7 +187,7 @@ module _ (top before after : ℕ) (small : top ≤ 2 ^ 64) where
 -- How many numbers are read.
 module _ (top before after : ℕ) (bytes ns : List ℕ) (at next : ℕ) where
   pub slot_long : (slot top before after).read bytes at ≡ got ns next → length ns ≡ before + suc after
-  unfolding slot if◌then◌else◌
+  unfolding slot when◌then◌else◌
   slot_long e =
       let a = both_read (number_below top bytes at) _ e in
       split (eqb a.value 0)

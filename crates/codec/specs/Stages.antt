@@ -1,6 +1,6 @@
 -- A value of several stages: its numbers stand in a list of a fixed length, and those that are used stand in the bytes. What a stage uses hangs on the numbers of the stages before it.
 use Rattle.std.specs.Prelude.{Bool, List, [], ◌∷◌, ◌++◌, ℕ, ◌+◌, ltb, leb, eqb, length, get_or, take, drop}
-use Rattle.laws.specs.Bool.{if◌then◌else◌, ◌and◌}
+use Rattle.laws.specs.Bool.{when◌then◌else◌, ◌and◌}
 use Rattle.laws.specs.Every.{every}
 use Rattle.laws.specs.Listing.{padded}
 use Rattle.codec.specs.Read.{Read, got, bad, onward}
@@ -25,7 +25,7 @@ unfoldable pub column : (top room used : ℕ) → Shape
 column top room used =
     record {
       width = room;
-      read = λ bytes at. if ltb room used then bad else onward (numbers_at top used bytes at) (λ ns p. got (padded room 0 ns) p);
+      read = λ bytes at. when ltb room used then bad else onward (numbers_at top used bytes at) (λ ns p. got (padded room 0 ns) p);
       fields = take used;
       tidy = λ ns. eqb (length ns) room and leb used room and all_below top (take used ns) and all_zero (drop used ns);
     }

@@ -8,7 +8,7 @@ use native.Mathlib.Omega.{arith}
 use Rattle.std.proofs.Math.ListN.{get_or}
 use Rattle.std.proofs.Math.Seq.{get_or-take, get_or-drop}
 use borrow.Author.Tests.{eqb-true, eq-eqb, leb-true}
-use Rattle.laws.specs.Bool.{if◌then◌else◌, both}
+use Rattle.laws.specs.Bool.{when◌then◌else◌, both}
 use Rattle.laws.specs.Every.{every}
 use Rattle.codec.specs.Stages.{column, beside, all_zero}
 use Rattle.codec.specs.Slots.{slot, slots}
@@ -35,7 +35,7 @@ module _ (top room used : ℕ) (ns : List ℕ) (tidy : (column top room used).ti
 -- OF SLOTS, one whose lead is 0.
 module _ (top before after : ℕ) where
   slot_zero : (ns : List ℕ) → (slot top before after).tidy ns ≡ true → get_or ns before 0 ≡ 0 → (j : ℕ) → get_or ns j 0 ≡ 0
-  unfolding slot if◌then◌else◌
+  unfolding slot when◌then◌else◌
   slot_zero ns h z j = zero_at ns j (rw (eq-eqb (get_or ns before 0) 0 z) at (both _ _ (both _ _ h).1).1)
 
   pub slots_zero : (k : ℕ) (ns : List ℕ) → (slots top before after k).tidy ns ≡ true → (n : ℕ) → n < k → get_or ns ((before + suc after) * n + before) 0 ≡ 0 → (j : ℕ) → j < before + suc after → get_or ns ((before + suc after) * n + j) 0 ≡ 0

@@ -1,7 +1,7 @@
 -- Counting: how often a sequence number is in the store or among the endings, and how many visits there are.
 use Rattle.std.specs.Prelude.{◌≡◌, refl, false, List, [], ◌∷◌, ◌++◌, ℕ, zero, suc, ◌+◌, ◌≤◌, ◌<◌, get_or, set, length, eqb}
 use Rattle.std.proofs.Common.{arith}
-use Rattle.laws.specs.Bool.{if◌then◌else◌, if_false}
+use Rattle.laws.specs.Bool.{when◌then◌else◌, if_false}
 use Rattle.laws.specs.Shift.{remove_at}
 use Rattle.laws.specs.All.{all_set}
 use Rattle.workflow.specs.View.{Workflow}
@@ -13,10 +13,10 @@ use Rattle.demand3.specs.Words.{is_it, times, total, Counts}
 
 -- THE ENDINGS. 1 if a move lists an ending of q, else 0.
 unfoldable pub ends_of : (q : ℕ) → Ending → ℕ
-ends_of q x = if eqb x.ending 0 then 0 else is_it q x.sequence
+ends_of q x = when eqb x.ending 0 then 0 else is_it q x.sequence
 
 pub ends_none : (q p : ℕ) → ends_of q (record { sequence = p; ending = 0 }) ≡ 0
-unfolding ends_of if◌then◌else◌
+unfolding ends_of when◌then◌else◌
 ends_none q p = refl
 
 pub ends_one : (q p k : ℕ) → eqb k 0 ≡ false → ends_of q (record { sequence = p; ending = k }) ≡ is_it q p

@@ -6,7 +6,7 @@ use Rattle.std.proofs.Math.Bool.{true}
 use Rattle.std.proofs.Math.Logic.{inr}
 use Prim.Native.Nat.{ℕ, zero, suc, ◌+◌, ◌≤◌, ◌<◌}
 use borrow.Author.Tests.{ltb-true, eqb-true}
-use Rattle.laws.specs.Bool.{if◌then◌else◌, ◌and◌, split, both, join, either}
+use Rattle.laws.specs.Bool.{when◌then◌else◌, ◌and◌, split, both, join, either}
 use Rattle.laws.specs.Every.{every}
 use Rattle.laws.specs.Settle.{settle, settle_rests}
 use Rattle.workflow.specs.View.{Workflow}
@@ -51,7 +51,7 @@ ends_append q [] ys = omega arith
 ends_append q (x ∷ xs) ys = omega (arith, ends_append q xs ys)
 
 ends_add : (q : ℕ) (xs : List Ending) (x : Ending) → ends q xs + ends_of q x ≡ ends q (added x.ending xs x)
-unfolding added ends_of ends if◌then◌else◌
+unfolding added ends_of ends when◌then◌else◌
 ends_add q xs x = split (eqb x.ending 0) (λ h. rw h (omega arith)) (λ h. rw h (omega (arith, ends_append q xs (x ∷ []))))
 
 zero_plain : (x : Note) → x.code ≡ 0 → plain x ≡ true
@@ -96,7 +96,7 @@ module _ (f : Workflow) (sheet : Sound f) (limit : ℕ) (e : Event) (m : Mapping
   checked_moved k j x v t b = record { checks = fine v.state v.next t.after; bounds = b }
 
   checked_counting : (k : ℕ) (x : Machine) (v : Move) → x.microsteps + 1 ≤ 130 → Tidy.Good f v → Bounded f limit e m k (counting f limit e m x v) → Checked k (counting f limit e m x v)
-  unfolding counting if◌then◌else◌
+  unfolding counting when◌then◌else◌
   checked_counting k x v h t =
       split (ltb limit (x.microsteps + 1))
       (λ l. rw l (λ b. record { checks = inr (refl, omega (arith, ltb-true limit (x.microsteps + 1) l)); bounds = b }))
@@ -160,7 +160,7 @@ module _ (f : Workflow) (sheet : Sound f) (limit : ℕ) (e : Event) (m : Mapping
         }
 
     kept_counting : (k : ℕ) (x : Machine) (v : Move) → Keep.Good f s₀ e (told x) v → Opened.Good f s₀.invocation v → Checked k (counting f limit e m x v) → Kept k (counting f limit e m x v)
-    unfolding counting if◌then◌else◌
+    unfolding counting when◌then◌else◌
     kept_counting k x v g o =
         split (ltb limit (x.microsteps + 1))
         (λ l. rw l (λ b. record { base = b; keeps = tt; opens = tt }))
@@ -213,7 +213,7 @@ module _ (f : Workflow) (sheet : Sound f) (limit : ℕ) (e : Event) (m : Mapping
 
     -- With none of the notes 1 to 3 a result was heard: what is noted stays noted.
     plain_before : (xs : List Note) (x : Note) → every plain (added x.code xs x) ≡ true → every plain xs ≡ true
-    unfolding added if◌then◌else◌
+    unfolding added when◌then◌else◌
     plain_before xs x = split (eqb x.code 0) (λ h. rw h (λ g. g)) (λ h. rw h (λ g. every_front plain xs (x ∷ []) g))
 
     plain_counting : (x : Machine) (v : Move) → every plain (counting f limit e m x v).notes ≡ true → every plain x.notes ≡ true
@@ -242,7 +242,7 @@ module _ (f : Workflow) (sheet : Sound f) (limit : ℕ) (e : Event) (m : Mapping
         either (λ (y : Machine). every plain y.notes ≡ true → every plain x.notes ≡ true) (is_moving f limit e m x) (λ _ g. plain_advance x.next x (plain_settle k _ g)) (λ _ g. g)
 
     plain_note : (x : Note) → every plain (added x.code [] x) ≡ true → plain x ≡ true
-    unfolding added if◌then◌else◌ every ◌and◌
+    unfolding added when◌then◌else◌ every ◌and◌
     plain_note x = split (eqb x.code 0) (λ h. rw h (λ g. zero_plain x (eqb-true _ _ h))) (λ h. rw h (λ g. (both _ _ g).0))
 
     pub driven_hears : eqb e.kind activity_result ≡ true → every plain (driven f limit e m s₀).notes ≡ true → heard f s₀ e ≡ true

@@ -6,7 +6,7 @@ use Rattle.std.proofs.Math.Bool.{true, false}
 use Rattle.std.proofs.lemmas.Bool.{false≢true}
 use Rattle.std.proofs.Math.ListN.{get_or-eq_default}
 use borrow.Author.Tests.{ne_eqb, eqb-true, eqb-false}
-use Rattle.laws.specs.Bool.{if◌then◌else◌, both, split}
+use Rattle.laws.specs.Bool.{when◌then◌else◌, both, split}
 use Rattle.laws.specs.Every.{every}
 use Rattle.laws.specs.All.{All, Distinct, all_map, all_replicate}
 use Rattle.laws.specs.In.{In, head, tail}
@@ -91,17 +91,17 @@ fresh_history f x =
       applied_ordered = tt;
     }
 
-at_most_one : (b : Bool) (k n : ℕ) → k ≤ 1 → n ≤ 1 → (b ≡ true → k + n ≤ 1) → (if b then k else 0) + n ≤ 1
-unfolding if◌then◌else◌
+at_most_one : (b : Bool) (k n : ℕ) → k ≤ 1 → n ≤ 1 → (b ≡ true → k + n ≤ 1) → (when b then k else 0) + n ≤ 1
+unfolding when◌then◌else◌
 at_most_one true k n p h g = g refl
 at_most_one false k n p h g = omega arith
 
 is_it_small : (q k : ℕ) → is_it q k ≤ 1
-unfolding is_it if◌then◌else◌
+unfolding is_it when◌then◌else◌
 is_it_small q k = split (eqb k q) (λ h. rw h (omega arith)) (λ h. rw h (omega arith))
 
 not_it : (q k : ℕ) → (k ≡ q → ⊥) → is_it q k ≡ 0
-unfolding is_it if◌then◌else◌
+unfolding is_it when◌then◌else◌
 not_it q k n = rw (ne_eqb k q n)
 
 -- the number that comes is not among those that came
@@ -186,8 +186,8 @@ module _ (f : Workflow) (ds : List Done) (s : State) (st : History f ds s) (e : 
       omega (arith, b.low (sym ev ∙ h.visit_is ∙ ap (λ (j : ℕ). (visits_of s j).count) en) (sym en ∙ h.node_is), h.open_is)
 
   applied_if : (b : Bool) → (b ≡ true → Heard f s e)
-      → Distinct ((if b then it ∷ [] else []) ++ applied ds) × All (Below a.state 1 (opens a.state.invocation)) ((if b then it ∷ [] else []) ++ applied ds)
-  unfolding if◌then◌else◌
+      → Distinct ((when b then it ∷ [] else []) ++ applied ds) × All (Below a.state 1 (opens a.state.invocation)) ((when b then it ∷ [] else []) ++ applied ds)
+  unfolding when◌then◌else◌
   applied_if true h = ((all_map _ _ (applied ds) (fresh_applied (h refl)) st.below_applied, st.applied_once), (new_applied (h refl), old_applied))
   applied_if false h = (st.applied_once, old_applied)
 
@@ -196,10 +196,10 @@ module _ (f : Workflow) (ds : List Done) (s : State) (st : History f ds s) (e : 
 
   -- SIGNALS
   abbrev arrives : ℕ → ℕ
-  arrives q = if eqb e.kind signal_received then is_it q e.sequence else 0
+  arrives q = when eqb e.kind signal_received then is_it q e.sequence else 0
 
   arrives_late : (q : ℕ) → e.sequence < q → arrives q ≡ 0
-  unfolding if◌then◌else◌
+  unfolding when◌then◌else◌
   arrives_late q h = split (eqb e.kind signal_received) (λ k. rw k (not_it q e.sequence (λ x. omega arith))) (λ k. rw k)
 
   arrives_once : (q : ℕ) → arrives q + signals q ds ≤ 1
@@ -233,8 +233,8 @@ module _ (f : Workflow) (ds : List Done) (s : State) (st : History f ds s) (e : 
       let ek : s.invocation.attempt ≡ e.attempt = eqb-true _ _ k.0 in
       rw (← en, ← ev, ← ek) (st.open_ordered k.1)
 
-  ordered_if : (b : Bool) → (b ≡ true → In it (ordered ds)) → All (λ x. In x (ordered ds)) (if b then it ∷ [] else [])
-  unfolding if◌then◌else◌
+  ordered_if : (b : Bool) → (b ≡ true → In it (ordered ds)) → All (λ x. In x (ordered ds)) (when b then it ∷ [] else [])
+  unfolding when◌then◌else◌
   ordered_if true h = (h refl, tt)
   ordered_if false h = tt
 

@@ -5,7 +5,7 @@ use Rattle.std.proofs.Common.{sym, ◌∙◌, subst, arith, length-set, get_or-s
 use Rattle.std.proofs.Math.Logic.{inl, inr}
 use Rattle.std.proofs.Math.Bool.{not, false≢true}
 use borrow.Author.Tests.{leb-false, eqb-true, ne_eqb, not-true, not-false}
-use Rattle.laws.specs.Bool.{if◌then◌else◌, ◌and◌, both, join, if_true, if_false, split, either}
+use Rattle.laws.specs.Bool.{when◌then◌else◌, ◌and◌, both, join, if_true, if_false, split, either}
 use Rattle.workflow.specs.Code.{none, exhausted}
 use Rattle.model.specs.Code.{scheduled, unknown, stuck, run_started, signal_received, activity_result, end_routed, end_unrouted, end_overflow, end_ignored}
 use Rattle.workflow.specs.declared.Found.{Found}
@@ -43,7 +43,7 @@ use Rattle.kernel.specs.Cost.{entered, spares_result, spares_resolved}
 -- A CALL, by the record that it is given and its event.
 -- How often q is in the store or arrives.
 unfoldable pub base : State → Event → (q : ℕ) → ℕ
-base s e q = times q (stored s) + (if eqb e.kind signal_received then is_it q e.sequence else 0)
+base s e q = times q (stored s) + (when eqb e.kind signal_received then is_it q e.sequence else 0)
 
 -- The event is a result that applies.
 abbrev pub heard : Workflow → State → Event → Bool
@@ -51,11 +51,11 @@ heard f s e = eqb e.kind activity_result and not (is_terminal s.status) and appl
 
 -- The attempts below this one have had their result or can have none.
 abbrev pub opens : InvocationState → ℕ
-opens i = if eqb i.phase scheduled then i.attempt else i.attempt + 1
+opens i = when eqb i.phase scheduled then i.attempt else i.attempt + 1
 
 -- By how much `opens` must rise where the run stays.
 unfoldable pub rise : Workflow → State → Event → ℕ
-rise f s e = if heard f s e then 1 else 0
+rise f s e = when heard f s e then 1 else 0
 
 -- The invocation is of the visit where the run stands.
 pub record Owner (s : State) : Type 0 where
@@ -195,7 +195,7 @@ module _ (f : Workflow) (s₀ : State) (e : Event) where
         })
 
     -- ENTERING.
-    leads_if : (b : Bool) {x y : Move} → Leads told x → Leads told y → Leads told (if b then x else y)
+    leads_if : (b : Bool) {x y : Move} → Leads told x → Leads told y → Leads told (when b then x else y)
     leads_if b p q = either (Leads told) b (λ _. p) (λ _. q)
 
     leads_rest : (s : State) {x : Note} {y : Ending} {r : ℕ} → Lives told s nothing → Stands s
@@ -310,7 +310,7 @@ module _ (f : Workflow) (s₀ : State) (e : Event) where
 
     -- a result that applies is of an attempt that is scheduled
     rises : opens s₀.invocation + rise f s₀ e ≤ s₀.invocation.attempt + 1
-    unfolding rise applies named if◌then◌else◌
+    unfolding rise applies named when◌then◌else◌
     rises =
         split (heard f s₀ e)
         (λ y. rw (y, if_true _ _ _ (both _ _ (both _ _ (both _ _ (both _ _ y).1).1).1).1) (omega arith))
@@ -324,11 +324,11 @@ module _ (f : Workflow) (s₀ : State) (e : Event) where
     stands_parked p x z = stays refl refl (omega arith) (rw (if_false (eqb p scheduled) s₀.invocation.attempt (s₀.invocation.attempt + 1) z) rises)
 
     stands_again : Standing s₀.position.node s₀.visits (phased s₀.invocation scheduled (s₀.invocation.attempt + 1) Kept.Nothing)
-    unfolding if◌then◌else◌
+    unfolding when◌then◌else◌
     stands_again = stays refl refl (omega arith) rises
 
     module _ (ready : Ready f s₀) where
-      live_seen : (told hand : ℕ → ℕ) → ((q : ℕ) → told q + hand q ≡ (if eqb e.kind signal_received then is_it q e.sequence else 0)) → Lives told s₁ hand
+      live_seen : (told hand : ℕ → ℕ) → ((q : ℕ) → told q + hand q ≡ (when eqb e.kind signal_received then is_it q e.sequence else 0)) → Lives told s₁ hand
       unfolding base
       live_seen told hand h =
           record {

@@ -1,7 +1,7 @@
 -- Where an attempt is open, it is the one that the call orders, or it was open before: what every move keeps of it.
 use Rattle.std.specs.Prelude.{◌≡◌, Bool, false, [], ◌∷◌, ℕ, eqb}
 use Rattle.std.proofs.Math.Path.{refl}
-use Rattle.laws.specs.Bool.{if◌then◌else◌, either}
+use Rattle.laws.specs.Bool.{when◌then◌else◌, either}
 use Rattle.workflow.specs.View.{Workflow}
 use Rattle.workflow.specs.declared.Found.{Found}
 use Rattle.workflow.specs.declared.Found.TheVariants.{At, Nothing}
@@ -52,7 +52,7 @@ module _ (f : Workflow) (before : InvocationState) where
   abbrev pub Still : State → Type 0
   Still s = Opened before s.invocation Order.Nothing
 
-  good_if : (b : Bool) {x y : Move} → Good x → Good y → Good (if b then x else y)
+  good_if : (b : Bool) {x y : Move} → Good x → Good y → Good (when b then x else y)
   good_if b p q = either Good b (λ _. p) (λ _. q)
 
   good_terminate : (s : State) (x : ErrorInfo) → Good (terminate f s x)

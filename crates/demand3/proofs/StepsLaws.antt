@@ -4,7 +4,7 @@ use Rattle.std.proofs.Common.{◌∙◌, ap}
 use Rattle.std.specs.Prelude.{false, ltb}
 use Prim.Native.Nat.{ℕ, zero, suc, ◌+◌, ◌*◌, ◌≤◌}
 use native.Mathlib.Omega.{arith}
-use Rattle.laws.specs.Bool.{if◌then◌else◌, split, either}
+use Rattle.laws.specs.Bool.{when◌then◌else◌, split, either}
 use Rattle.laws.specs.Settle.{settle, settle_rests}
 use Rattle.workflow.specs.View.{Workflow}
 use Rattle.workflow.specs.declared.Found.{Found}
@@ -60,7 +60,7 @@ module _ (f : Workflow) (limit : ℕ) (e : Event) (m : Mappings) where
   step_cost (Refuse k) s = omega arith
 
   none_left : (k : ℕ) (x : Machine) → is_moving f limit e m x ≡ false → steps f limit e m k x ≡ 0
-  unfolding steps if◌then◌else◌
+  unfolding steps when◌then◌else◌
   none_left zero x h = refl
   none_left (suc k) x h = rw h
 
@@ -78,7 +78,7 @@ module _ (f : Workflow) (limit : ℕ) (e : Event) (m : Mappings) where
 
   exact : (k : ℕ) (x : Machine) → (settle (is_moving f limit e m) (advance f limit e m) k x).next ≡ Rest
       → (settle (is_moving f limit e m) (advance f limit e m) k x).microsteps ≡ x.microsteps + steps f limit e m k x
-  unfolding steps settle if◌then◌else◌
+  unfolding steps settle when◌then◌else◌
   exact zero x = λ h. omega arith
   exact (suc k) x =
       split (is_moving f limit e m x)

@@ -7,7 +7,7 @@ use Rattle.std.proofs.Math.Bool.{true, not}
 use Rattle.std.proofs.lemmas.Bool.{false≢true}
 use native.Mathlib.Omega.{arith}
 use borrow.Author.Tests.{ltb-true, leb-true, leb-false, eqb-true, lt-ltb, le-leb, eq-eqb, ne_eqb, not-true, not-false}
-use Rattle.laws.specs.Bool.{if◌then◌else◌, ◌and◌, ◌or◌, both, join, split, if_true, if_false, either}
+use Rattle.laws.specs.Bool.{when◌then◌else◌, ◌and◌, ◌or◌, both, join, split, if_true, if_false, either}
 use Rattle.laws.specs.Every.{every}
 use Rattle.laws.specs.In.{below_at, at_below}
 use Rattle.laws.specs.Arrays.{Slots, slots_set, slots_none}
@@ -45,20 +45,20 @@ use Rattle.demand3.specs.Tidy.{Stores, visits_fit, its_result_fits, its_streak_f
 
 -- SMALL CASES
 -- A test over three arrays is a test over each.
-one_by_one : (b p q u v w : Bool) → (if b then p and q else u and v and w) ≡ ((if b then true else u) and (if b then p else v) and (if b then q else w))
-unfolding if◌then◌else◌ ◌and◌
+one_by_one : (b p q u v w : Bool) → (when b then p and q else u and v and w) ≡ ((when b then true else u) and (when b then p else v) and (when b then q else w))
+unfolding when◌then◌else◌ ◌and◌
 one_by_one true p q u v w = refl
 one_by_one false p q u v w = refl
 
 -- The second case, where the first cannot be.
-otherwise : (b x y : Bool) → (if b then x else y) ≡ true → (x ≡ true → ⊥) → y ≡ true
-unfolding if◌then◌else◌
+otherwise : (b x y : Bool) → (when b then x else y) ≡ true → (x ≡ true → ⊥) → y ≡ true
+unfolding when◌then◌else◌
 otherwise true x y e h = absurd (h e)
 otherwise false x y e h = e
 
 -- A signal's outcome that routes is routed.
-signal_routed : (b : Bool) (x : Found) → found (if b then Nothing else x) ≡ true → found x ≡ true
-unfolding if◌then◌else◌
+signal_routed : (b : Bool) (x : Found) → found (when b then Nothing else x) ≡ true → found x ≡ true
+unfolding when◌then◌else◌
 signal_routed true x e = absurd (false≢true e)
 signal_routed false x e = e
 
@@ -102,11 +102,11 @@ module _ (f : Workflow) where
       )
 
   -- The first record is tidy, and one that takes note of an event stays so.
-  zeros_fit : (n : ℕ) → (if ltb n f.node_count then true else true) ≡ true
+  zeros_fit : (n : ℕ) → (when ltb n f.node_count then true else true) ≡ true
   zeros_fit n = split (ltb n f.node_count) (if_true _ _ _) (if_false _ _ _)
 
   pub tidy_fresh : (x : ℕ) → Tidies f (fresh x)
-  unfolding if◌then◌else◌ ◌and◌ ◌or◌ every signals_fit listed
+  unfolding when◌then◌else◌ ◌and◌ ◌or◌ every signals_fit listed
   tidy_fresh x =
       record {
         in_sequence = omega arith;
@@ -208,7 +208,7 @@ module _ (f : Workflow) where
 
   -- There it waits for a signal, or for its invocation.
   abbrev busy : State → Bool
-  busy s = if eqb s.status waiting then waits (node_of f s.position.node) s else works f (node_of f s.position.node) s
+  busy s = when eqb s.status waiting then waits (node_of f s.position.node) s else works f (node_of f s.position.node) s
 
   stands_here : (s : State) → is_terminal s.status ≡ false → IsHere s → busy s ≡ true → stands f s ≡ true
   unfolding stands
@@ -236,7 +236,7 @@ module _ (f : Workflow) where
 
   -- The status goes with the phase and with the error that is kept.
   abbrev in_phase : (status phase : ℕ) → Kept → Bool
-  in_phase k p e = not (is_terminal k) and not (eqb k waiting) and (if keeps_error e then eqb p stuck else not (eqb p stuck)) and phase_fits f k p
+  in_phase k p e = not (is_terminal k) and not (eqb k waiting) and (when keeps_error e then eqb p stuck else not (eqb p stuck)) and phase_fits f k p
 
   stands_at_work : (s : State) → IsHere s → IsOwned s → 0 < s.invocation.attempt → in_phase s.status s.invocation.phase s.invocation.error ≡ true → stands f s ≡ true
   stands_at_work s h o a e =
@@ -260,14 +260,14 @@ module _ (f : Workflow) where
   used_fits v o x e = rw e
 
   no_streak_fits : (n : ℕ) → streak_fits f n no_streak ≡ true
-  unfolding if◌then◌else◌
+  unfolding when◌then◌else◌
   no_streak_fits n = refl
 
   one_more_fits : (n o k x : ℕ) → limit_of f n o ≡ At x → k < x → streak_fits f n (record { outcome = o; count = k + 1 }) ≡ true
   one_more_fits n o k x e h = if_false _ _ _ (ne_eqb (k + 1) 0 (λ z. omega arith)) ∙ rw e (le-leb (k + 1) x (omega arith))
 
   module _ {s : State} {n : ℕ} (on : On s n) where
-    in_sheet : (a b : Bool) → a ≡ true → (if ltb n f.node_count then a else b) ≡ true
+    in_sheet : (a b : Bool) → a ≡ true → (when ltb n f.node_count then a else b) ≡ true
     in_sheet a b e = if_true _ _ _ (lt-ltb _ _ on.inside) ∙ e
 
     keep_slots : {v : List Visits} {r : List NodeResult} {x : List Streak} (activations : ℕ) → Slots node_room (visits_fit f) no_visits v → Slots node_room (its_result_fits f) no_node_result r → Slots node_room (its_streak_fits f) no_streak x → On (set_visits (set_results (set_streaks s x) r) v activations) n
@@ -305,7 +305,7 @@ module _ (f : Workflow) where
         record {
           after = record {
             tidy = on.tidy;
-            well = stands_at_work _ arrived (record { kind = k; same_node = refl; same_visit = refl; same_action = refl }) (omega arith) (unfold is_terminal if◌then◌else◌ ◌and◌ ◌or◌ in refl);
+            well = stands_at_work _ arrived (record { kind = k; same_node = refl; same_visit = refl; same_action = refl }) (omega arith) (unfold is_terminal when◌then◌else◌ ◌and◌ ◌or◌ in refl);
           };
         }
 
@@ -425,11 +425,11 @@ module _ (f : Workflow) where
               (λ _. record { after = inl refl })
               (λ _. either Good _
               (λ _. record { after = inl refl })
-              (λ _. record { after = after_phased running scheduled _ Kept.Nothing (omega arith) (unfold is_terminal if◌then◌else◌ ◌and◌ ◌or◌ in refl) }))
+              (λ _. record { after = after_phased running scheduled _ Kept.Nothing (omega arith) (unfold is_terminal when◌then◌else◌ ◌and◌ ◌or◌ in refl) }))
 
           good_stick : (e : ErrorInfo) → is_0_2 f ≡ true → Good (stick s e)
           unfolding stick
-          good_stick e h = record { after = after_phased needs_intervention stuck _ (Kept.Error e) (omega arith) (unfold is_terminal if◌then◌else◌ ◌and◌ ◌or◌ in h) }
+          good_stick e h = record { after = after_phased needs_intervention stuck _ (Kept.Error e) (omega arith) (unfold is_terminal when◌then◌else◌ ◌and◌ ◌or◌ in h) }
 
           good_fail : (k d : ℕ) (p : Bool) → Good (fail_invocation f s k d p)
           unfolding fail_invocation
@@ -450,7 +450,7 @@ module _ (f : Workflow) where
           unfolding on_unknown
           good_unknown e =
               either Good _
-              (λ _. record { after = after_phased needs_intervention unknown _ Kept.Nothing (omega arith) (unfold is_terminal if◌then◌else◌ ◌and◌ ◌or◌ in refl) })
+              (λ _. record { after = after_phased needs_intervention unknown _ Kept.Nothing (omega arith) (unfold is_terminal when◌then◌else◌ ◌and◌ ◌or◌ in refl) })
               (λ _. either Good _ (λ _. good_retry _) (λ _. good_fail _ _ _))
 
           good_resolve_as_fail : (x : Kept) (e : Event) → Good (resolve_as_fail f x s e)

@@ -2,7 +2,7 @@
 -- A reader needs of other files: `transition` (kernel, Call), the run check `consistent` (snapshot, Check), the words that count (Words) and the count of microsteps
 -- `begun` (Steps).
 use Rattle.std.specs.Prelude.{◌≡◌, true, List, [], ◌∷◌, ◌++◌, ℕ, ◌+◌, ◌≤◌, eqb}
-use Rattle.laws.specs.Bool.{if◌then◌else◌, ◌and◌}
+use Rattle.laws.specs.Bool.{when◌then◌else◌, ◌and◌}
 use Rattle.laws.specs.Every.{every}
 use Rattle.laws.specs.All.{All, Distinct}
 use Rattle.laws.specs.In.{In}
@@ -81,7 +81,7 @@ ordered (done ∷ before) = ordered_by done.answer.order ++ ordered before
 -- A result is applied to the attempt it names if its call is accepted with none of the notes 1 to 3.
 abbrev pub applied_by : Done → List Attempt
 applied_by done =
-    if eqb done.event.kind activity_result and every plain done.answer.notes
+    when eqb done.event.kind activity_result and every plain done.answer.notes
     then attempt done.event.node done.event.visit done.event.attempt ∷ []
     else []
 
@@ -93,7 +93,7 @@ applied (done ∷ before) = applied_by done ++ applied before
 -- with it in an accepted answer. How often is a number that of a signal, in the last record's store, in the endings?
 unfoldable pub signals : (sequence : ℕ) → List Done → ℕ
 signals sequence [] = 0
-signals sequence (done ∷ before) = (if eqb done.event.kind signal_received then is_it sequence done.event.sequence else 0) + signals sequence before
+signals sequence (done ∷ before) = (when eqb done.event.kind signal_received then is_it sequence done.event.sequence else 0) + signals sequence before
 
 abbrev pub in_store : (sequence : ℕ) → Last → ℕ
 in_store sequence no_record = 0

@@ -1,7 +1,7 @@
 -- The microsteps of a call, told from what comes next and not from the driver's own count: the entries, one that a visit or activation limit stops included, and the
 -- takes, an arrival's included.
 use Rattle.std.specs.Prelude.{ℕ, zero, suc, ◌+◌}
-use Rattle.laws.specs.Bool.{if◌then◌else◌}
+use Rattle.laws.specs.Bool.{when◌then◌else◌}
 use Rattle.workflow.specs.View.{Workflow}
 use Rattle.workflow.specs.Lookup.{node_of}
 use Rattle.workflow.specs.declared.Found.{Found}
@@ -37,7 +37,7 @@ module _ (sheet : Workflow) (limit : ℕ) (event : Event) (mappings : Mappings) 
   unfoldable pub steps : (moves : ℕ) → Machine → ℕ
   steps zero machine = 0
   steps (suc moves) machine =
-      if is_moving sheet limit event mappings machine
+      when is_moving sheet limit event mappings machine
       then is_step machine.state machine.next + steps moves (advance sheet limit event mappings machine)
       else 0
 

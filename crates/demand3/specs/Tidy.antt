@@ -1,7 +1,7 @@
 -- A tidy record: what the run check asks of it, but for where the run stands.
 use Rattle.std.specs.Prelude.{◌≡◌, Bool, List, ℕ, ◌≤◌, length, eqb, ltb}
 use Rattle.std.proofs.Math.Bool.{true}
-use Rattle.laws.specs.Bool.{if◌then◌else◌}
+use Rattle.laws.specs.Bool.{when◌then◌else◌}
 use Rattle.laws.specs.Arrays.{Slots}
 use Rattle.workflow.specs.Layout.{node_room}
 use Rattle.model.specs.Code.{largest}
@@ -23,13 +23,13 @@ pub record Stores (signals : List BufferedSignal) (count : ℕ) : Type 0 where
 
 -- THE SLOTS OF A NODE, one array at a time.
 abbrev pub visits_fit : Workflow → ℕ → Visits → Bool
-visits_fit f n x = if ltb n f.node_count then true else eqb x.count 0
+visits_fit f n x = when ltb n f.node_count then true else eqb x.count 0
 
 abbrev pub its_result_fits : Workflow → ℕ → NodeResult → Bool
-its_result_fits f n x = if ltb n f.node_count then result_fits x else result_zero x
+its_result_fits f n x = when ltb n f.node_count then result_fits x else result_zero x
 
 abbrev pub its_streak_fits : Workflow → ℕ → Streak → Bool
-its_streak_fits f n x = if ltb n f.node_count then streak_fits f n x else streak_zero x
+its_streak_fits f n x = when ltb n f.node_count then streak_fits f n x else streak_zero x
 
 -- The arrays of a record have 64 slots each, as the type of its code says.
 pub record Sized (s : State) : Type 0 where

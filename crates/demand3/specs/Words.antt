@@ -1,6 +1,6 @@
 -- The words of demand 3 that count: sequence numbers, visits, notes.
 use Rattle.std.specs.Prelude.{◌≡◌, Bool, not, List, [], ◌∷◌, ℕ, ◌+◌, ◌≤◌, eqb}
-use Rattle.laws.specs.Bool.{if◌then◌else◌, ◌and◌}
+use Rattle.laws.specs.Bool.{when◌then◌else◌, ◌and◌}
 use Rattle.laws.specs.All.{All}
 use Rattle.workflow.specs.View.{Workflow}
 use Rattle.model.specs.Code.{note_ignored, note_stale, note_not_applicable}
@@ -10,7 +10,7 @@ use Rattle.model.specs.declared.answer.Note.{Note}
 
 -- 1 if the number is the sequence number, else 0.
 unfoldable pub is_it : (sequence number : ℕ) → ℕ
-is_it sequence number = if eqb number sequence then 1 else 0
+is_it sequence number = when eqb number sequence then 1 else 0
 
 -- How many of the signals have the sequence number.
 unfoldable pub times : (sequence : ℕ) → List BufferedSignal → ℕ

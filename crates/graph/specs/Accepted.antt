@@ -7,7 +7,7 @@ use Rattle.std.proofs.lemmas.Bool.{false≢true}
 use native.Mathlib.Omega.{arith}
 use Rattle.std.proofs.Math.Dec.{eqb}
 use borrow.Author.Tests.{eq-eqb, eqb-true, not-false, ltb-true, leb-false}
-use Rattle.laws.specs.Bool.{if◌then◌else◌, ◌or◌, split, both, neither, implied}
+use Rattle.laws.specs.Bool.{when◌then◌else◌, ◌or◌, split, both, neither, implied}
 use Rattle.laws.specs.Rows.{span}
 use Rattle.laws.specs.First.{some}
 use Rattle.laws.specs.In.{In, every_in, Hit, hit, miss, hits, some_found, none_found}
@@ -114,8 +114,8 @@ module _ (f : Workflow) (r : Rules f) where
       }
 
 -- No sheet is refused with 0 or 26.
-mild_if : (b : Bool) (n i : ℕ) {v : Verdict} → eqb n 0 ≡ false → eqb n 26 ≡ false → Mild v → Mild (if b then Broken n i else v)
-unfolding if◌then◌else◌
+mild_if : (b : Bool) (n i : ℕ) {v : Verdict} → eqb n 0 ≡ false → eqb n 26 ≡ false → Mild v → Mild (when b then Broken n i else v)
+unfolding when◌then◌else◌
 mild_if true n i x y m = mild_broken n i x y
 mild_if false n i x y m = m
 

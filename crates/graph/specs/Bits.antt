@@ -5,7 +5,7 @@ use Rattle.std.proofs.lemmas.Bool.{false≢true, eqb-false}
 use Rattle.std.proofs.Math.Nat.{pow-succ', div-div-eq-div-mul}
 use Rattle.std.specs.Int.Bits.{bit_and, bit_or, and_step, or_step}
 use Rattle.std.proofs.lemmas.Nat.{and_shr, or_shr}
-use Rattle.laws.specs.Bool.{if◌then◌else◌, ◌and◌, ◌or◌, split}
+use Rattle.laws.specs.Bool.{when◌then◌else◌, ◌and◌, ◌or◌, split}
 use Rattle.graph.specs.Sets.{has, mark}
 
 pub has_suc : (s n : ℕ) → has s (suc n) ≡ has (s / 2) n
@@ -106,34 +106,34 @@ Under s t = (n : ℕ) → has s n ≡ true → has t n ≡ true
 
 unfoldable pub lacking : ℕ → ℕ → ℕ
 lacking zero s = 0
-lacking (suc k) s = (if has s k then 0 else 1) + lacking k s
+lacking (suc k) s = (when has s k then 0 else 1) + lacking k s
 
 pub lacking_le : (k s : ℕ) → lacking k s ≤ k
-unfolding lacking if◌then◌else◌
+unfolding lacking when◌then◌else◌
 lacking_le zero s = omega arith
 lacking_le (suc k) s = split (has s k) (λ e. rw e (omega (arith, lacking_le k s))) (λ e. rw e (omega (arith, lacking_le k s)))
 
 -- a larger set lacks no more, and where it lacks as many it is the same
 lacking_under : (k s t : ℕ) → Under s t → lacking k t ≤ lacking k s
-unfolding lacking if◌then◌else◌
+unfolding lacking when◌then◌else◌
 lacking_under zero s t u = omega arith
 lacking_under (suc k) s t u = go (has s k) (has t k) (u k) (lacking_under k s t u)
   where
-    go : (b c : Bool) → (b ≡ true → c ≡ true) → lacking k t ≤ lacking k s → (if c then 0 else 1) + lacking k t ≤ (if b then 0 else 1) + lacking k s
+    go : (b c : Bool) → (b ≡ true → c ≡ true) → lacking k t ≤ lacking k s → (when c then 0 else 1) + lacking k t ≤ (when b then 0 else 1) + lacking k s
     go true true h l = omega arith
     go true false h l = absurd (let p : false ≡ true = h refl in let z : ◌≡◌ {A = ℕ} 0 1 = cc in omega arith)
     go false true h l = omega arith
     go false false h l = omega arith
 
 pub lacking_same : (k s t : ℕ) → Under s t → lacking k s ≤ lacking k t → (n : ℕ) → n < k → has s n ≡ has t n
-unfolding lacking if◌then◌else◌
+unfolding lacking when◌then◌else◌
 lacking_same zero s t u l n h = absurd (omega arith)
 lacking_same (suc k) s t u l n h = go (has s k) (has t k) refl refl (u k) l (λ m g. lacking_same k s t u m n g)
   where
     last : has s k ≡ has t k → lacking k s ≤ lacking k t → (lacking k s ≤ lacking k t → n < k → has s n ≡ has t n) → has s n ≡ has t n
     last e m ih = split (ltb n k) (λ g. ih m (ltb-true n k g)) (λ g. let q : n ≡ k = omega (arith, ltb-false n k g) in rw q e)
 
-    go : (b c : Bool) → has s k ≡ b → has t k ≡ c → (b ≡ true → c ≡ true) → (if b then 0 else 1) + lacking k s ≤ (if c then 0 else 1) + lacking k t
+    go : (b c : Bool) → has s k ≡ b → has t k ≡ c → (b ≡ true → c ≡ true) → (when b then 0 else 1) + lacking k s ≤ (when c then 0 else 1) + lacking k t
         → (lacking k s ≤ lacking k t → n < k → has s n ≡ has t n) → has s n ≡ has t n
     go true true p q h m ih = last (p ∙ sym q) (omega arith) ih
     go true false p q h m ih = absurd (let r : false ≡ true = h refl in let z : ◌≡◌ {A = ℕ} 0 1 = cc in omega arith)

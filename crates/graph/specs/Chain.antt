@@ -2,7 +2,7 @@
 use Rattle.std.specs.Prelude.{◌≡◌, refl, Bool, true, false, List, [], ◌∷◌, ◌++◌, ℕ, eqb}
 use Rattle.std.proofs.Common.{sym, ◌∙◌, ap, arith}
 use Rattle.std.proofs.lemmas.Bool.{false≢true, eqb-false}
-use Rattle.laws.specs.Bool.{if◌then◌else◌}
+use Rattle.laws.specs.Bool.{when◌then◌else◌}
 use Rattle.laws.specs.All.{All}
 use Rattle.laws.specs.In.{In, head, tail}
 use Rattle.workflow.specs.Code.{none}
@@ -33,7 +33,7 @@ stage_fine e head = first_fine _ _ e
 stage_fine e (tail i) = stage_fine (rest_fine _ _ e) i
 
 pub rule_fine : (k : ℕ) (b : Bool) → rule k b ≡ Fine → b ≡ true
-unfolding if◌then◌else◌
+unfolding when◌then◌else◌
 rule_fine k true e = refl
 rule_fine k false e = never e
 
@@ -77,7 +77,7 @@ mild_broken n i a b =
     record { mild = λ k j e. let z : n ≡ k = cc in ((λ h. x (omega arith)), (λ h. y (omega arith))) }
 
 pub mild_rule : (n : ℕ) (b : Bool) → eqb n 0 ≡ false → eqb n 26 ≡ false → Mild (rule n b)
-unfolding if◌then◌else◌
+unfolding when◌then◌else◌
 mild_rule n true x y = mild_fine
 mild_rule n false x y = mild_broken n none x y
 

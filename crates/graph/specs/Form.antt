@@ -1,6 +1,6 @@
 -- The form of a sheet (refusal 20).
 use Rattle.std.specs.Prelude.{Bool, true, false, List, [], ◌∷◌, ℕ, ltb, leb, eqb}
-use Rattle.laws.specs.Bool.{if◌then◌else◌, ◌and◌, ◌or◌}
+use Rattle.laws.specs.Bool.{when◌then◌else◌, ◌and◌, ◌or◌}
 use Rattle.laws.specs.Every.{every}
 use Rattle.workflow.specs.Code.{none, activity, await_signal, complete, fail, reconcilable}
 use Rattle.workflow.specs.Layout.{node_room, route_room, limit_room, action_room, declared_room}
@@ -25,10 +25,10 @@ is_mark number = ltb number 2
 -- A known kind, and zero in the fields that it does not use; the mark "has loopLimits" on no end node; numbers that their fields can hold.
 unfoldable pub formed_node : Node → Bool
 formed_node node =
-    if eqb node.kind activity then is_mark node.has_params and eqb node.signal 0 and eqb node.code 0 and eqb node.detail 0 and is_mark node.has_limits else
-    if eqb node.kind await_signal then eqb node.action 0 and eqb node.has_params 0 and ltb node.signal 256 and eqb node.code 0 and eqb node.detail 0 and is_mark node.has_limits else
-    if eqb node.kind complete then eqb node.action 0 and eqb node.has_params 0 and eqb node.signal 0 and eqb node.code 0 and eqb node.detail 0 and eqb node.has_limits 0 else
-    if eqb node.kind fail then eqb node.action 0 and eqb node.has_params 0 and eqb node.signal 0 and ltb node.code 65536 and eqb node.has_limits 0 else
+    when eqb node.kind activity then is_mark node.has_params and eqb node.signal 0 and eqb node.code 0 and eqb node.detail 0 and is_mark node.has_limits else
+    when eqb node.kind await_signal then eqb node.action 0 and eqb node.has_params 0 and ltb node.signal 256 and eqb node.code 0 and eqb node.detail 0 and is_mark node.has_limits else
+    when eqb node.kind complete then eqb node.action 0 and eqb node.has_params 0 and eqb node.signal 0 and eqb node.code 0 and eqb node.detail 0 and eqb node.has_limits 0 else
+    when eqb node.kind fail then eqb node.action 0 and eqb node.has_params 0 and eqb node.signal 0 and ltb node.code 65536 and eqb node.has_limits 0 else
     false
 
 -- A known effect.

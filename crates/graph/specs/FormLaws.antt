@@ -4,7 +4,7 @@ use Rattle.std.proofs.Math.Path.{sym}
 use Rattle.std.proofs.Common.{◌∙◌, arith}
 use Prim.Native.Nat.{ℕ, zero, suc, ◌+◌, ◌-◌, ◌≤◌, ◌<◌}
 use borrow.Author.Tests.{ltb-true, ltb-false}
-use Rattle.laws.specs.Bool.{if◌then◌else◌, ◌and◌, and_true, strict_and, and_left, split, passed, stopped}
+use Rattle.laws.specs.Bool.{when◌then◌else◌, ◌and◌, and_true, strict_and, and_left, split, passed, stopped}
 use Rattle.laws.specs.Rows.{span, span_more, span_none}
 use Rattle.laws.specs.First.{Seek}
 use Rattle.laws.specs.Every.{every, every_then, every_rows}
@@ -124,19 +124,19 @@ module _ (w : List ℕ) where
 -- A node of each kind.
 module _ (x : Node) where
   pub activity_fits : x.kind ≡ activity → (ltb x.has_params 2 && eqb x.signal 0 && eqb x.code 0 && eqb x.detail 0 && ltb x.has_limits 2) ≡ formed_node x
-  unfolding formed_node if◌then◌else◌
+  unfolding formed_node when◌then◌else◌
   activity_fits h = rw h (simp and_left (simp strict_and))
 
   pub await_fits : x.kind ≡ await_signal → (eqb x.action 0 && eqb x.has_params 0 && ltb x.signal 256 && eqb x.code 0 && eqb x.detail 0 && ltb x.has_limits 2) ≡ formed_node x
-  unfolding formed_node if◌then◌else◌
+  unfolding formed_node when◌then◌else◌
   await_fits h = rw h (simp and_left (simp strict_and))
 
   pub complete_fits : x.kind ≡ complete → (eqb x.action 0 && eqb x.has_params 0 && eqb x.signal 0 && eqb x.code 0 && eqb x.detail 0 && eqb x.has_limits 0) ≡ formed_node x
-  unfolding formed_node if◌then◌else◌
+  unfolding formed_node when◌then◌else◌
   complete_fits h = rw h (simp and_left (simp strict_and))
 
   pub fail_fits : x.kind ≡ fail → (eqb x.action 0 && eqb x.has_params 0 && eqb x.signal 0 && ltb x.code 65536 && eqb x.has_limits 0) ≡ formed_node x
-  unfolding formed_node if◌then◌else◌
+  unfolding formed_node when◌then◌else◌
   fail_fits h = rw h (simp and_left (simp strict_and))
 
 -- THE LOOPS. All rows pass: a search for one that does not.

@@ -3,7 +3,7 @@ use Rattle.std.specs.Prelude.{◌≡◌, Bool, true, false, eqb}
 use Rattle.std.proofs.Common.{◌∙◌, ap, arith, eqb-true}
 use Prim.Native.Nat.{ℕ, zero, suc, ◌+◌, ◌≤◌, ◌<◌}
 use Rattle.std.proofs.lemmas.Bool.{eqb-false}
-use Rattle.laws.specs.Bool.{if◌then◌else◌, split}
+use Rattle.laws.specs.Bool.{when◌then◌else◌, split}
 use Rattle.laws.specs.Rows.{span, span_more, span_none}
 use Rattle.laws.specs.First.{first}
 use Rattle.workflow.specs.declared.Found.{Found}
@@ -28,7 +28,7 @@ module _ (k : ℕ) (p : ℕ → Bool) where
   down i h (is_none f) = is_none (λ n a b. from_next i k n h f a b)
 
   least_from : (m i : ℕ) → k ≡ i + m → Least k p i (first p (λ _ n. At n) Nothing i (span (λ n. n) i k))
-  unfolding first if◌then◌else◌
+  unfolding first when◌then◌else◌
   least_from zero i e = rw (span_none (λ n. n) i k (omega arith)) (is_none (λ n a b. absurd (omega arith)))
   least_from (suc m) i e =
       rw (span_more (λ n. n) i k (omega arith))

@@ -11,7 +11,7 @@ use Rattle.std.proofs.Math.Dec.{leb, eqb}
 use Rattle.std.proofs.Math.Pow.{pow-lt}
 use Rattle.std.proofs.lemmas.Nat.{or_lt}
 use borrow.Author.Tests.{eq-eqb, eqb-true, leb-true, le-leb}
-use Rattle.laws.specs.Bool.{if◌then◌else◌, split}
+use Rattle.laws.specs.Bool.{when◌then◌else◌, split}
 use Rattle.laws.specs.Rows.{span}
 use Rattle.laws.specs.In.{In, head, tail, in_span, span_in}
 use Rattle.workflow.specs.Code.{complete}
@@ -38,10 +38,10 @@ module _ (b : Bool) (xs : List Route) (s : ℕ) where
   Trails t = (n : ℕ) → has t n ≡ true → Trail b xs s n
 
   spread_trails : (t : ℕ) (x : Route) → In x xs → Trails t → Trails (spread t (turned b x))
-  unfolding if◌then◌else◌
+  unfolding when◌then◌else◌
   spread_trails t x i h n = go (has t (turned b x).node) refl
     where
-      go : (c : Bool) → has t (turned b x).node ≡ c → has (if c then mark t (turned b x).target else t) n ≡ true → Trail b xs s n
+      go : (c : Bool) → has t (turned b x).node ≡ c → has (when c then mark t (turned b x).target else t) n ≡ true → Trail b xs s n
       go false e p = h n p
       go true e p =
           ⊎_elim (λ q. h n q) (λ (q : eqb n (turned b x).target ≡ true). rw (eqb-true n (turned b x).target q) (next i (h (turned b x).node e)))
@@ -83,7 +83,7 @@ module _ (k : ℕ) (g : ℕ → ℕ) (up : (s : ℕ) → Under s (g s)) (low : (
 -- a pass keeps what a set has, and adds where a route leads
 module _ (b : Bool) where
   follow_keeps : (t : ℕ) (x : Route) → Under t (spread t x)
-  unfolding if◌then◌else◌
+  unfolding when◌then◌else◌
   follow_keeps t x n h = split (has t x.node) (λ e. rw (e, has_mark t x.target n) (or_left _ _ h)) (λ e. rw e h)
 
   pass_keeps : (ys : List Route) (t : ℕ) → Under t (pass b ys t)
@@ -92,7 +92,7 @@ module _ (b : Bool) where
   pass_keeps (y ∷ ys) t n h = pass_keeps ys (spread t (turned b y)) n (follow_keeps t (turned b y) n h)
 
   pass_adds : (ys : List Route) (t : ℕ) {x : Route} → In x ys → has t (turned b x).node ≡ true → has (pass b ys t) (turned b x).target ≡ true
-  unfolding pass if◌then◌else◌
+  unfolding pass when◌then◌else◌
   pass_adds [] t i h = elim i [ ]
   pass_adds (x ∷ ys) t head h =
       pass_keeps ys (spread t (turned b x)) (turned b x).target
@@ -100,7 +100,7 @@ module _ (b : Bool) where
   pass_adds (y ∷ ys) t {x} (tail i) h = pass_adds ys (spread t (turned b y)) i (follow_keeps t (turned b y) (turned b x).node h)
 
   follow_low : (k t : ℕ) (x : Route) → t < 2 ^ k → x.target < k → spread t x < 2 ^ k
-  unfolding if◌then◌else◌
+  unfolding when◌then◌else◌
   follow_low k t x h l = split (has t x.node) (λ e. rw e (or_lt k t (2 ^ x.target) h (pow-lt l))) (λ e. rw e h)
 
   pass_low : (k : ℕ) (ys : List Route) (t : ℕ) → ((x : Route) → In x ys → (turned b x).target < k) → t < 2 ^ k → pass b ys t < 2 ^ k
@@ -156,8 +156,8 @@ pub record End (f : Workflow) (n : ℕ) : Type 0 where
   pub there : n < f.node_count
   pub is_end : complete ≤ (node_of f n).kind
 
-with_end : (f : Workflow) (s i : ℕ) → Under s (if leb complete (node_of f i).kind then mark s i else s)
-unfolding if◌then◌else◌
+with_end : (f : Workflow) (s i : ℕ) → Under s (when leb complete (node_of f i).kind then mark s i else s)
+unfolding when◌then◌else◌
 with_end f s i n h = split (leb complete (node_of f i).kind) (λ e. rw (e, has_mark s i n) (or_left _ _ h)) (λ e. rw e h)
 
 module _ (f : Workflow) where
@@ -167,18 +167,18 @@ module _ (f : Workflow) where
   ends_keep (i ∷ ns) s n h = ends_keep ns _ n (with_end f s i n h)
 
   ends_add : (ns : List ℕ) (s : ℕ) {n : ℕ} → In n ns → complete ≤ (node_of f n).kind → has (with_ends f ns s) n ≡ true
-  unfolding with_ends if◌then◌else◌
+  unfolding with_ends when◌then◌else◌
   ends_add [] s m h = elim m [ ]
   ends_add (n ∷ ns) s head h =
       ends_keep ns _ n (rw (le-leb complete (node_of f n).kind h, has_mark s n n) (or_right _ _ (eq-eqb n n refl)))
   ends_add (i ∷ ns) s (tail m) h = ends_add ns _ m h
 
   ends_only : (ns : List ℕ) (s n : ℕ) → has (with_ends f ns s) n ≡ true → (has s n ≡ true) ⊎ ((In n ns) × (complete ≤ (node_of f n).kind))
-  unfolding with_ends if◌then◌else◌
+  unfolding with_ends when◌then◌else◌
   ends_only [] s n h = inl h
   ends_only (i ∷ ns) s n h = ⊎_elim (λ p. one p) (λ (p : (In n ns) × (complete ≤ (node_of f n).kind)). inr (tail p.0, p.1)) (ends_only ns _ n h)
     where
-      one : has (if leb complete (node_of f i).kind then mark s i else s) n ≡ true → (has s n ≡ true) ⊎ ((In n (i ∷ ns)) × (complete ≤ (node_of f n).kind))
+      one : has (when leb complete (node_of f i).kind then mark s i else s) n ≡ true → (has s n ≡ true) ⊎ ((In n (i ∷ ns)) × (complete ≤ (node_of f n).kind))
       one p =
           split (leb complete (node_of f i).kind)
           (λ e. ⊎_elim (λ q. inl q) (λ (q : eqb n i ≡ true). let z : n ≡ i = eqb-true n i q in inr (rw z head, rw z (leb-true _ _ e)))
@@ -186,7 +186,7 @@ module _ (f : Workflow) where
           (λ e. inl (rw e at p))
 
 ends_low : (f : Workflow) (k : ℕ) (ns : List ℕ) (s : ℕ) → ((n : ℕ) → In n ns → n < k) → s < 2 ^ k → with_ends f ns s < 2 ^ k
-unfolding with_ends if◌then◌else◌
+unfolding with_ends when◌then◌else◌
 ends_low f k [] s h l = l
 ends_low f k (i ∷ ns) s h l =
     ends_low f k ns _ (λ n p. h n (tail p)) (split (leb complete (node_of f i).kind) (λ e. rw e (or_lt k s (2 ^ i) l (pow-lt (h i head)))) (λ e. rw e l))

@@ -11,7 +11,7 @@ use Rattle.std.proofs.Math.Pow.{pow-lt}
 use Rattle.std.specs.Int.Bits.{bit_and, bit_or}
 use Rattle.std.proofs.lemmas.Nat.{and_mask, and_le_r, or_lt}
 use Rattle.std.specs.Int.Count.{count_trailing_zeros, under}
-use Rattle.laws.specs.Bool.{if◌then◌else◌, ◌and◌, ◌or◌, split, both, join, or_false}
+use Rattle.laws.specs.Bool.{when◌then◌else◌, ◌and◌, ◌or◌, split, both, join, or_false}
 use Rattle.laws.specs.Rows.{span, span_more, span_none}
 use Rattle.laws.specs.In.{In, head, tail, in_span}
 use Rattle.workflow.specs.Code.{complete}
@@ -33,7 +33,7 @@ missing k s = lowest k (λ n. not (has s n))
 
 -- The complete and fail nodes.
 abbrev pub add_end : (set node kind : ℕ) → ℕ
-add_end s n k = if leb complete k then mark s n else s
+add_end s n k = when leb complete k then mark s n else s
 
 abbrev pub ends : Workflow → ℕ
 ends f = with_ends f (span (λ n. n) 0 f.node_count) 0

@@ -9,7 +9,7 @@ use Rattle.std.proofs.Math.ListN.{length-set, length-replicate}
 use Rattle.std.proofs.lemmas.List.{get_or-replicate}
 use Rattle.std.proofs.Math.Dec.{eqb}
 use borrow.Author.Tests.{eq-eqb, eqb-true, eqb-false, ltb-true, ltb-false, lt-ltb, le-ltb, ne_eqb}
-use Rattle.laws.specs.Bool.{if◌then◌else◌, ◌and◌, ◌or◌, split, both, and_true, or_false, if_true}
+use Rattle.laws.specs.Bool.{when◌then◌else◌, ◌and◌, ◌or◌, split, both, and_true, or_false, if_true}
 use Rattle.laws.specs.Rows.{span, span_more, span_none, at_span}
 use Rattle.laws.specs.First.{first, some, Seek, seek_start}
 use Rattle.laws.specs.Every.{every}
@@ -75,7 +75,7 @@ unfoldable pub misses : Workflow → (node : ℕ) → Bool
 misses f n = some (bad_limit f n) f.limits or not (routed f n exhausted)
 
 unfoldable pub breaks : Workflow → (rule node : ℕ) → Bool
-breaks f r n = if eqb r 8 then breaks_8 f n else if eqb r 9 then breaks_9 f n else breaks_12 f n
+breaks f r n = when eqb r 8 then breaks_8 f n else when eqb r 9 then breaks_9 f n else breaks_12 f n
 
 -- Numbers that have a mark.
 pub record Outcomes (w : List ℕ) (c a b : ℕ) : Type 0 where
@@ -134,12 +134,12 @@ eqb_sym x y = split (eqb y x) (λ e. rw e (eq-eqb x y (sym (eqb-true y x e)))) (
 
 -- A SEARCH OF A PART. To a test that is only passed or not the places do not matter.
 some_at : {A : Type 0} (p : A → Bool) (i j : ℕ) (xs : List A) → first p (λ _ _. true) false i xs ≡ first p (λ _ _. true) false j xs
-unfolding first if◌then◌else◌
+unfolding first when◌then◌else◌
 some_at p i j [] = refl
 some_at p i j (x ∷ xs) = split (p x) (λ h. rw h) (λ h. rw h (some_at p (i + 1) (j + 1) xs))
 
 some_cons : {A : Type 0} (p : A → Bool) (x : A) (xs : List A) → some p (x ∷ xs) ≡ p x or some p xs
-unfolding first if◌then◌else◌ ◌or◌
+unfolding first when◌then◌else◌ ◌or◌
 some_cons p x xs = split (p x) (λ h. rw h) (λ h. rw h (some_at p (0 + 1) 0 xs))
 
 pub seek_from : {A : Type 0} {p : A → Bool} {f : ℕ → A} {k : ℕ} (a : ℕ) → Seek p (λ _ _. true) false f k a (some p (span f a k))
@@ -187,14 +187,14 @@ some_of g b p d i e = some_trim p g b (λ j. p (g j)) b (omega arith) (λ j l h.
 
 -- MARKS. What is marked after one more.
 module _ (m : List Bool) (x : ℕ) (v : Bool) (long : length m ≡ 256) (small : x < 256) (o : ℕ) where
-  mark_at : get_or (set m x v) o false ≡ (if eqb o x then v else get_or m o false)
-  unfolding if◌then◌else◌
+  mark_at : get_or (set m x v) o false ≡ (when eqb o x then v else get_or m o false)
+  unfolding when◌then◌else◌
   mark_at =
       split (eqb o x) (λ e. let z : o ≡ x = eqb-true o x e in rw (e, z) (get_or-set_same m x v false (omega arith)))
       (λ e. rw e (get_or-set_other m x o v false (eqb-false o x e)))
 
 mark_one : (m : List Bool) (x : ℕ) → length m ≡ 256 → x < 256 → (o : ℕ) → get_or (set m x true) o false ≡ eqb x o or get_or m o false
-unfolding if◌then◌else◌ ◌or◌
+unfolding when◌then◌else◌ ◌or◌
 mark_one m x long small o = mark_at m x true long small o ∙ split (eqb o x) (λ e. rw (eqb_sym x o, e)) (λ e. rw (eqb_sym x o, e))
 
 module _ (g : ℕ → ℕ) (b o : ℕ) where
@@ -485,7 +485,7 @@ again_is g b (suc d) i m long e small =
     shuffle false false u v = refl
 
 reserved_has : (t : Bool) (o : ℕ) → o < 256 → get_or (reserved_marks t) o false ≡ eqb o failed or t and eqb o exhausted
-unfolding if◌then◌else◌ ◌or◌ ◌and◌
+unfolding when◌then◌else◌ ◌or◌ ◌and◌
 reserved_has t o h =
     let l = length-replicate 256 false in
     mark_at (set no_marks failed true) exhausted t (length-set no_marks failed true ∙ l) (omega arith) o
@@ -565,7 +565,7 @@ abbrev pub known : List Bool → (exhausted : Bool) → List Bool
 known m e = set (set m failed true) exhausted (e or get_or (set m failed true) exhausted false)
 
 known_has : (m : List Bool) (e : Bool) (o : ℕ) → length m ≡ 256 → get_or (known m e) o false ≡ eqb o failed or eqb o exhausted and e or get_or m o false
-unfolding if◌then◌else◌ ◌or◌ ◌and◌
+unfolding when◌then◌else◌ ◌or◌ ◌and◌
 known_has m e o long =
     mark_at (set m failed true) exhausted _ (length-set m failed true ∙ long) (omega arith) o
     ∙ rw (mark_at m failed true long (omega arith) o, mark_at m failed true long (omega arith) exhausted)
@@ -592,7 +592,7 @@ breaks_9_at {a = a} {b = b} g = rw (routes_any g, not_not (eqb a b), nowhere_in 
 
 -- RULE 12. The marks but for exhausted.
 unlike : (m : List Bool) (o : ℕ) → length m ≡ 256 → not (get_or (set m exhausted false) o false) ≡ eqb o exhausted or not (get_or m o false)
-unfolding if◌then◌else◌ ◌or◌
+unfolding when◌then◌else◌ ◌or◌
 unlike m o long = rw (mark_at m exhausted false long (omega arith) o) (split (eqb o exhausted) (λ h. rw h) (λ h. rw h))
 
 -- With the marks m that the code has, exhausted is routed, or not.

@@ -6,7 +6,7 @@ use Rattle.std.proofs.lemmas.Bool.{false≢true}
 use Prim.Native.Nat.{ℕ, zero, suc, ◌+◌, ◌-◌, ◌≤◌, ◌<◌}
 use native.Mathlib.Omega.{arith}
 use borrow.Author.Tests.{eq-eqb, eqb-true, eqb-false, not-true, ltb-true, ltb-false, leb-true, lt-ltb, le-ltb, le-leb}
-use Rattle.laws.specs.Bool.{if◌then◌else◌, ◌and◌, ◌or◌, split, both}
+use Rattle.laws.specs.Bool.{when◌then◌else◌, ◌and◌, ◌or◌, split, both}
 use Rattle.laws.specs.Rows.{span, span_more, span_none}
 use Rattle.laws.specs.First.{first}
 use Rattle.laws.specs.Every.{every}
@@ -18,7 +18,7 @@ use Rattle.graph.specs.FormLaws.{rows_ascend, rows_rise, routes_ascending, limit
 -- THE CUT: the lowest number below k that fails, or k.
 cut_from : (ℕ → Bool) → (i m : ℕ) → ℕ
 cut_from p i zero = i
-cut_from p i (suc m) = if p i then cut_from p (i + 1) m else i
+cut_from p i (suc m) = when p i then cut_from p (i + 1) m else i
 
 pub cut : (ℕ → Bool) → ℕ → ℕ
 cut p k = cut_from p 0 k
@@ -33,7 +33,7 @@ one_up : (p : ℕ → Bool) (i j : ℕ) → ((j : ℕ) → j < i → p j ≡ tru
 one_up p i j b t h = split (eqb j i) (λ e. ap p (eqb-true j i e) ∙ t) (λ e. let d : j ≡ i → ⊥ = eqb-false j i e in b j (omega arith))
 
 cut_from_cuts : (p : ℕ → Bool) (k i m : ℕ) → k ≡ i + m → ((j : ℕ) → j < i → p j ≡ true) → Cut p k (cut_from p i m)
-unfolding cut_from if◌then◌else◌
+unfolding cut_from when◌then◌else◌
 cut_from_cuts p k i zero e b = record { within = omega arith; below = b; fails = λ h. absurd (omega arith) }
 cut_from_cuts p k i (suc m) e b =
     split (p i) (λ t. rw t (cut_from_cuts p k (i + 1) m (omega arith) (λ j h. one_up p i j b t h)))
@@ -269,7 +269,7 @@ module _ {w : List ℕ} {c k from : ℕ} (key : ℕ) (rising : Rising w c k) (fi
 -- THE FIRST ROW THAT PASSES, over the rows from i on.
 module _ {A B : Type 0} (q : A → Bool) (v : ℕ → A → B) (e : B) (f : ℕ → A) (k : ℕ) where
   pub first_skip : (m i : ℕ) → i + m ≤ k → ((j : ℕ) → i ≤ j → j < i + m → q (f j) ≡ false) → first q v e i (span f i k) ≡ first q v e (i + m) (span f (i + m) k)
-  unfolding first if◌then◌else◌
+  unfolding first when◌then◌else◌
   first_skip zero i h n =
       let z : i + 0 ≡ i = omega arith in
       rw z

@@ -1,7 +1,7 @@
 -- Reached nodes, as a 64-bit set (W14 and W15 of graph.rs).
 use Rattle.std.specs.Prelude.{Bool, true, false, not, List, [], ◌∷◌, ℕ, zero, suc, ◌/◌, ◌%◌, ◌^◌, leb, eqb}
 use Rattle.std.specs.Int.Bits.{bit_or}
-use Rattle.laws.specs.Bool.{if◌then◌else◌, ◌and◌}
+use Rattle.laws.specs.Bool.{when◌then◌else◌, ◌and◌}
 use Rattle.laws.specs.Rows.{span}
 use Rattle.workflow.specs.Code.{complete}
 use Rattle.workflow.specs.View.{Workflow}
@@ -21,7 +21,7 @@ turned true route = record { node = route.target; outcome = route.outcome; targe
 turned false route = route
 
 abbrev pub spread : (set : ℕ) → Route → ℕ
-spread set route = if has set route.node then mark set route.target else set
+spread set route = when has set route.node then mark set route.target else set
 
 unfoldable pub pass : (back : Bool) → List Route → (set : ℕ) → ℕ
 pass back [] set = set
@@ -38,7 +38,7 @@ closed sheet back set = repeated sheet.node_count (pass back sheet.routes) set
 -- The complete and fail nodes.
 unfoldable pub with_ends : Workflow → (nodes : List ℕ) → (set : ℕ) → ℕ
 with_ends sheet [] set = set
-with_ends sheet (node ∷ later) set = with_ends sheet later (if leb complete (node_of sheet node).kind then mark set node else set)
+with_ends sheet (node ∷ later) set = with_ends sheet later (when leb complete (node_of sheet node).kind then mark set node else set)
 
 -- The nodes that are reached from start, and those from which an end is reached.
 unfoldable pub reached : Workflow → ℕ

@@ -1,6 +1,6 @@
 -- The verdict on a sheet: the first broken rule, with the lowest node or action that breaks it.
 use Rattle.std.specs.Prelude.{Bool, true, false, List, [], ◌∷◌, ℕ, ltb, eqb}
-use Rattle.laws.specs.Bool.{if◌then◌else◌, ◌and◌, ◌or◌}
+use Rattle.laws.specs.Bool.{when◌then◌else◌, ◌and◌, ◌or◌}
 use Rattle.laws.specs.Rows.{span}
 use Rattle.laws.specs.First.{first}
 use Rattle.workflow.specs.Code.{none, format_0_1, reconcilable}
@@ -18,7 +18,7 @@ use Rattle.graph.specs.Sets.{breaks_14, breaks_15}
 
 -- A rule of the whole sheet or of a call, and one whose item is the lowest that breaks it.
 abbrev pub rule : (number : ℕ) → (holds : Bool) → Verdict
-rule number holds = if holds then Fine else Broken number none
+rule number holds = when holds then Fine else Broken number none
 
 unfoldable pub rule_at : (number : ℕ) → (broken_by : Found) → Verdict
 rule_at number (At item) = Broken number item
@@ -37,8 +37,8 @@ first_broken (Broken number item ∷ later) = Broken number item
 -- Per action: 16 (reconcilable), then 7.
 abbrev pub action_verdict : Workflow → Ceilings → (action : ℕ) → Verdict
 action_verdict sheet ceilings action =
-    if eqb (policy_of sheet action).effect reconcilable then Broken 16 action else
-    if breaks_7 sheet ceilings.attempts action then Broken 7 action else
+    when eqb (policy_of sheet action).effect reconcilable then Broken 16 action else
+    when breaks_7 sheet ceilings.attempts action then Broken 7 action else
     Fine
 
 unfoldable pub actions_verdict : Workflow → Ceilings → Verdict

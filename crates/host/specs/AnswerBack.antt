@@ -7,7 +7,7 @@ use native.Mathlib.Omega.{arith}
 use Rattle.std.proofs.Math.ListN.{length, get_or-append, get_or-eq_default}
 use Rattle.std.proofs.lemmas.List.{length-replicate}
 use Rattle.std.proofs.Math.Seq.{drop_at, take_at}
-use Rattle.laws.specs.Bool.{if◌then◌else◌, split, if_true}
+use Rattle.laws.specs.Bool.{when◌then◌else◌, split, if_true}
 use Rattle.laws.specs.Rows.{span}
 use Rattle.laws.specs.Splice.{splice}
 use Rattle.laws.specs.Listing.{padded}
@@ -34,12 +34,12 @@ use Rattle.host.specs.RoundBack.{record_back_of, record_numbers_length}
 
 -- THE ORDER behind the answer's first two numbers.
 params_back : (x : Params) (rest : List ℕ) → params_from (at (params_numbers x ++ rest) 0) (at (params_numbers x ++ rest) 1) ≡ x
-unfolding params_numbers if◌then◌else◌
+unfolding params_numbers when◌then◌else◌
 params_back Params.Nothing rest = refl
 params_back (Params.Handle x) rest = refl
 
 order_back : (a b : ℕ) (x : Order) (rest : List ℕ) → order_from (a ∷ b ∷ (order_numbers x ++ rest)) ≡ x
-unfolding order_from order_numbers if◌then◌else◌
+unfolding order_from order_numbers when◌then◌else◌
 order_back a b Order.Nothing rest = refl
 order_back a b (Order.Schedule x) rest = rw (params_back x.params rest)
 order_back a b (Order.Retry x) rest = refl
@@ -164,7 +164,7 @@ module _ (x : Accepted) (f : AcceptedFits x) where
   next_length = length_decision (decision_of (next x)) notes_long endings_long (record_numbers_length x.state f.state)
 
   next_back : answer_of_numbers written ≡ next x
-  unfolding answer_of_numbers accepted_from if◌then◌else◌
+  unfolding answer_of_numbers accepted_from when◌then◌else◌
   next_back = rw (next_kind, next_microsteps, next_order, next_noted, next_ended, next_notes, next_endings, next_record, record_back_of x.state f.state)
 
 -- A WANT AND A REFUSAL have no lists.
@@ -189,7 +189,7 @@ module _ (node field from : ℕ) (state : State) (f : Fits state) where
   want_numbers = (refl, refl, refl, refl)
 
   want_back : answer_of_numbers (decision_numbers (decision_of (wants node field from state))) ≡ wants node field from state
-  unfolding answer_of_numbers if◌then◌else◌
+  unfolding answer_of_numbers when◌then◌else◌
   want_back =
       let w = want_numbers in
       rw (w.0, w.1, w.2, w.3, want_record, record_back_of state f)
@@ -204,7 +204,7 @@ module _ (number item : ℕ) where
   refusal_length = let d = decision_of (refused number item) in length_decision d (none_noted d refl refl) (none_ended d refl refl) (length-replicate {A = ℕ} record_length 0)
 
   refusal_back : answer_of_numbers (decision_numbers (decision_of (refused number item))) ≡ refused number item
-  unfolding answer_of_numbers if◌then◌else◌
+  unfolding answer_of_numbers when◌then◌else◌
   refusal_back =
       let w = refusal_numbers in
       rw (w.0, w.1, w.2)

@@ -5,7 +5,7 @@ use Rattle.std.proofs.lemmas.Bool.{false≢true}
 use native.Mathlib.Omega.{arith}
 use Rattle.std.proofs.Math.ListN.{length}
 use Rattle.std.proofs.lemmas.List.{length-replicate}
-use Rattle.laws.specs.Bool.{if◌then◌else◌, split}
+use Rattle.laws.specs.Bool.{when◌then◌else◌, split}
 use Rattle.laws.specs.Rows.{span, length_span, at_span}
 use Rattle.laws.specs.Every.{every, below}
 use Rattle.laws.specs.In.{every_in, in_span, below_at, at_below}
@@ -126,12 +126,12 @@ module _ (r : List ℕ) where
     streak_none = rw (streak_zero (streak_place i) (omega arith) (omega arith), streak_zero (streak_place i + 1) (omega arith) (omega arith))
 
     pub result_none : result_of r i ≡ no_node_result
-    unfolding result_of output_of narrow if◌then◌else◌
+    unfolding result_of output_of narrow when◌then◌else◌
     result_none =
         rw (result_zero (result_place i) (omega arith) (omega arith), result_zero (result_place i + 1) (omega arith) (omega arith), result_zero (result_place i + 2) (omega arith) (omega arith))
 
     pub node_fine : node_fits r i ≡ true
-    unfolding node_fits output_fits if◌then◌else◌
+    unfolding node_fits output_fits when◌then◌else◌
     node_fine =
         let v = visits_zero in
         let s = streak_zero (streak_place i) (omega arith) (omega arith) in

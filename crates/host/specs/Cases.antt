@@ -5,7 +5,7 @@ use Rattle.std.proofs.lemmas.Bool.{false≢true}
 use Rattle.std.proofs.Common.{mod-eq_of_lt, arith}
 use Rattle.std.proofs.Math.Nat.{mod-le}
 use borrow.Author.Tests.{ltb-true, lt-ltb, eqb-true}
-use Rattle.laws.specs.Bool.{if◌then◌else◌, split}
+use Rattle.laws.specs.Bool.{when◌then◌else◌, split}
 use Rattle.laws.specs.All.{All}
 use Rattle.model.specs.declared.ErrorInfo.{ErrorInfo}
 use Rattle.model.specs.declared.Output.{Output}
@@ -71,7 +71,7 @@ all_three false b c e = absurd (false≢true e)
 
 module _ (t a b c : ℕ) where
   pub output_case : output_fits t a b c ≡ true → OutputCase t a b c
-  unfolding output_fits if◌then◌else◌
+  unfolding output_fits when◌then◌else◌
   output_case e =
       split (eqb t 0)
       (λ h.
@@ -87,7 +87,7 @@ module _ (t a b c : ℕ) where
       rw (eqb-true t 2 q.0) (error (ltb-true a 65536 p.0) (ltb-true b 256 p.1) (ltb-true c (2 ^ 32) p.2))))
 
   pub kept_case : kept_fits t a b c ≡ true → KeptCase t a b c
-  unfolding kept_fits if◌then◌else◌
+  unfolding kept_fits when◌then◌else◌
   kept_case e =
       split (eqb t 0)
       (λ h.
@@ -104,24 +104,24 @@ error_read a b c f g h = record { code = narrow_below a f; node = narrow_below b
 
 -- Numbers that fit are read and written again without loss, and what is read fits.
 pub output_again : {t a b c : ℕ} → OutputCase t a b c → output_numbers (output_of t a b c) ≡ t ∷ a ∷ b ∷ c ∷ []
-unfolding output_of output_numbers error_of if◌then◌else◌
+unfolding output_of output_numbers error_of when◌then◌else◌
 output_again nothing = refl
 output_again (handle {x} h) = rw (small x h)
 output_again (error {a} {b} {c} f g h) = rw (code_small a f, name_small b g, small c h)
 
 pub kept_again : {t a b c : ℕ} → KeptCase t a b c → kept_numbers (kept_of t a b c) ≡ t ∷ a ∷ b ∷ c ∷ []
-unfolding kept_of kept_numbers error_of if◌then◌else◌
+unfolding kept_of kept_numbers error_of when◌then◌else◌
 kept_again nothing = refl
 kept_again (error {a} {b} {c} f g h) = rw (code_small a f, name_small b g, small c h)
 
 pub output_read : {t a b c : ℕ} → OutputCase t a b c → OutputFits (output_of t a b c)
-unfolding output_of if◌then◌else◌
+unfolding output_of when◌then◌else◌
 output_read nothing = tt
 output_read (handle {x} h) = narrow_below x h
 output_read (error {a} {b} {c} f g h) = error_read a b c f g h
 
 pub kept_read : {t a b c : ℕ} → KeptCase t a b c → KeptFits (kept_of t a b c)
-unfolding kept_of if◌then◌else◌
+unfolding kept_of when◌then◌else◌
 kept_read nothing = tt
 kept_read (error {a} {b} {c} f g h) = error_read a b c f g h
 
@@ -132,23 +132,23 @@ error_back x f = rw (code_small x.code f.code, name_small x.node f.node, small x
 
 module _ (rest : List ℕ) where
   pub output_back : (x : Output) → OutputFits x → output_of (at (output_numbers x ++ rest) 0) (at (output_numbers x ++ rest) 1) (at (output_numbers x ++ rest) 2) (at (output_numbers x ++ rest) 3) ≡ x
-  unfolding output_of output_numbers if◌then◌else◌
+  unfolding output_of output_numbers when◌then◌else◌
   output_back Output.Nothing f = refl
   output_back (Output.Handle x) f = rw (small x f)
   output_back (Output.Error e) f = rw (error_back e f)
 
   pub kept_back : (x : Kept) → KeptFits x → kept_of (at (kept_numbers x ++ rest) 0) (at (kept_numbers x ++ rest) 1) (at (kept_numbers x ++ rest) 2) (at (kept_numbers x ++ rest) 3) ≡ x
-  unfolding kept_of kept_numbers if◌then◌else◌
+  unfolding kept_of kept_numbers when◌then◌else◌
   kept_back Kept.Nothing f = refl
   kept_back (Kept.Error e) f = rw (error_back e f)
 
   pub output_fit : (x : Output) → OutputFits x → output_fits (at (output_numbers x ++ rest) 0) (at (output_numbers x ++ rest) 1) (at (output_numbers x ++ rest) 2) (at (output_numbers x ++ rest) 3) ≡ true
-  unfolding output_fits output_numbers if◌then◌else◌
+  unfolding output_fits output_numbers when◌then◌else◌
   output_fit Output.Nothing f = refl
   output_fit (Output.Handle x) f = rw (lt-ltb x (2 ^ 32) f)
   output_fit (Output.Error e) f = rw (lt-ltb e.code 65536 f.code, lt-ltb e.node 256 f.node, lt-ltb e.detail (2 ^ 32) f.detail)
 
   pub kept_fit : (x : Kept) → KeptFits x → kept_fits (at (kept_numbers x ++ rest) 0) (at (kept_numbers x ++ rest) 1) (at (kept_numbers x ++ rest) 2) (at (kept_numbers x ++ rest) 3) ≡ true
-  unfolding kept_fits kept_numbers if◌then◌else◌
+  unfolding kept_fits kept_numbers when◌then◌else◌
   kept_fit Kept.Nothing f = refl
   kept_fit (Kept.Error e) f = rw (lt-ltb e.code 65536 f.code, lt-ltb e.node 256 f.node, lt-ltb e.detail (2 ^ 32) f.detail)

@@ -1,6 +1,6 @@
 -- What the exported functions answer.
 use Rattle.std.specs.Prelude.{◌≡◌, not, List, [], ◌∷◌, ℕ, ◌^◌, ◌<◌, length, get_or, ltb, eqb}
-use Rattle.laws.specs.Bool.{if◌then◌else◌, ◌and◌}
+use Rattle.laws.specs.Bool.{when◌then◌else◌, ◌and◌}
 use Rattle.laws.specs.Splice.{splice}
 use Rattle.workflow.specs.Layout.{numbers as sheet_length}
 use Rattle.workflow.specs.View.{workflow}
@@ -19,12 +19,12 @@ use Rattle.host.specs.Write.{decision_numbers}
 -- tested only where one goes with the call.
 unfoldable pub receipt : (sheet_size : ℕ) (call given : List ℕ) (room : ℕ) → ℕ
 receipt sheet_size call given room =
-    if not (eqb sheet_size sheet_length) then bad_sheet_length else
-    if not (eqb (length call) call_length) then bad_call_length else
-    if not (eqb (length given) record_length) then bad_record_length else
-    if ltb room answer_length then short_buffer else
-    if not (call_fits call) then bad_call else
-    if has_record call and not (record_fits given) then bad_record else written
+    when not (eqb sheet_size sheet_length) then bad_sheet_length else
+    when not (eqb (length call) call_length) then bad_call_length else
+    when not (eqb (length given) record_length) then bad_record_length else
+    when ltb room answer_length then short_buffer else
+    when not (call_fits call) then bad_call else
+    when has_record call and not (record_fits given) then bad_record else written
 
 unfoldable pub decided : (sheet call given : List ℕ) → Decision
 decided sheet call given = decision_of (transition (workflow sheet) (given_record (has_record call) (record_of given)) (call_of call))
@@ -32,7 +32,7 @@ decided sheet call given = decision_of (transition (workflow sheet) (given_recor
 -- The buffer: the answer stands at its beginning, or it is as it was.
 unfoldable pub answered : (sheet : List ℕ) (sheet_size : ℕ) (call given buffer : List ℕ) → List ℕ
 answered sheet sheet_size call given buffer =
-    if eqb (receipt sheet_size call given (length buffer)) written then splice buffer 0 (decision_numbers (decided sheet call given)) else buffer
+    when eqb (receipt sheet_size call given (length buffer)) written then splice buffer 0 (decision_numbers (decided sheet call given)) else buffer
 
 -- An answer's numbers are as many as the layout says, and each has 64 bits.
 pub record Full (numbers : List ℕ) : Type 0 where
@@ -42,8 +42,8 @@ pub record Full (numbers : List ℕ) : Type 0 where
 -- A VERDICT: the refusal's number and its item, or 0 and 0.
 unfoldable pub verdict_receipt : (sheet_size room : ℕ) → ℕ
 verdict_receipt sheet_size room =
-    if not (eqb sheet_size sheet_length) then bad_sheet_length else
-    if ltb room verdict_length then short_buffer else written
+    when not (eqb sheet_size sheet_length) then bad_sheet_length else
+    when ltb room verdict_length then short_buffer else written
 
 unfoldable pub verdict_numbers : Verdict → List ℕ
 verdict_numbers Fine = 0 ∷ 0 ∷ []
@@ -51,4 +51,4 @@ verdict_numbers (Broken number item) = number ∷ item ∷ []
 
 unfoldable pub judged : (sheet : List ℕ) (sheet_size : ℕ) → Ceilings → (buffer : List ℕ) → List ℕ
 judged sheet sheet_size ceilings buffer =
-    if eqb (verdict_receipt sheet_size (length buffer)) written then splice buffer 0 (verdict_numbers (verdict (workflow sheet) ceilings)) else buffer
+    when eqb (verdict_receipt sheet_size (length buffer)) written then splice buffer 0 (verdict_numbers (verdict (workflow sheet) ceilings)) else buffer

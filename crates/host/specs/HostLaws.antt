@@ -5,7 +5,7 @@ use Rattle.std.proofs.Common.{◌∙◌, ap, arith}
 use Rattle.std.proofs.Math.Bool.{not}
 use Rattle.std.proofs.Math.ListN.{length, get_or, set}
 use borrow.Author.Tests.{ltb-false, lt-ltb, le-ltb, eqb-true, eq-eqb, ne_eqb}
-use Rattle.laws.specs.Bool.{if◌then◌else◌, ◌and◌, split, if_true, if_false}
+use Rattle.laws.specs.Bool.{when◌then◌else◌, ◌and◌, split, if_true, if_false}
 use Rattle.laws.specs.Splice.{splice, splice_one, splice_more, length_splice}
 use Rattle.workflow.specs.Layout.{numbers as sheet_length}
 use Rattle.workflow.specs.View.{workflow}
@@ -29,15 +29,15 @@ use Rattle.host.specs.Host.{receipt, decided, answered, verdict_receipt, verdict
 -- THE TWO PARTS OF A RECEIPT: by the lengths, and by the numbers.
 unfoldable pub by_lengths : (sheet_size call_size given_size room : ℕ) → ℕ
 by_lengths sheet_size call_size given_size room =
-    if not (eqb sheet_size sheet_length) then layout.bad_sheet_length else
-    if not (eqb call_size call_length) then layout.bad_call_length else
-    if not (eqb given_size record_length) then layout.bad_record_length else
-    if ltb room answer_length then layout.short_buffer else layout.written
+    when not (eqb sheet_size sheet_length) then layout.bad_sheet_length else
+    when not (eqb call_size call_length) then layout.bad_call_length else
+    when not (eqb given_size record_length) then layout.bad_record_length else
+    when ltb room answer_length then layout.short_buffer else layout.written
 
 unfoldable pub by_numbers : (call given : List ℕ) → ℕ
 by_numbers call given =
-    if not (call_fits call) then layout.bad_call else
-    if has_record call and not (record_fits given) then layout.bad_record else layout.written
+    when not (call_fits call) then layout.bad_call else
+    when has_record call and not (record_fits given) then layout.bad_record else layout.written
 
 -- What is lent has the layout's lengths.
 pub record Lent (sheet_size call_size given_size room : ℕ) : Type 0 where
@@ -48,7 +48,7 @@ pub record Lent (sheet_size call_size given_size room : ℕ) : Type 0 where
 
 module _ (n c r b : ℕ) where
   pub lent : by_lengths n c r b ≡ layout.written → Lent n c r b
-  unfolding by_lengths if◌then◌else◌
+  unfolding by_lengths when◌then◌else◌
   lent e =
       split (eqb n sheet_length)
       (λ h. split (eqb c call_length)
@@ -60,15 +60,15 @@ module _ (n c r b : ℕ) where
       (λ h. let z : ◌≡◌ {A = ℕ} 4 0 = rw h at e in absurd (omega arith))
 
   pub of_lent : Lent n c r b → by_lengths n c r b ≡ layout.written
-  unfolding by_lengths if◌then◌else◌
+  unfolding by_lengths when◌then◌else◌
   of_lent l = rw (eq-eqb n sheet_length l.sheet, eq-eqb c call_length l.call, eq-eqb r record_length l.given, le-ltb b answer_length l.roomy)
 
 module _ (n : ℕ) (c r : List ℕ) (b : ℕ) where
   abbrev lengths : ℕ
   lengths = by_lengths n (length c) (length r) b
 
-  receipt_parts : receipt n c r b ≡ (if eqb lengths layout.written then by_numbers c r else lengths)
-  unfolding receipt by_lengths by_numbers if◌then◌else◌
+  receipt_parts : receipt n c r b ≡ (when eqb lengths layout.written then by_numbers c r else lengths)
+  unfolding receipt by_lengths by_numbers when◌then◌else◌
   receipt_parts =
       split (eqb n sheet_length)
       (λ h. split (eqb (length c) call_length)
@@ -92,24 +92,24 @@ module _ (n : ℕ) (c r : List ℕ) (b : ℕ) where
   done e = receipt_read (of_lent n (length c) (length r) b (receipt_lent e)) ∙ e
 
   pub receipt_call : receipt n c r b ≡ layout.written → call_fits c ≡ true
-  unfolding by_numbers if◌then◌else◌
+  unfolding by_numbers when◌then◌else◌
   receipt_call e = let d = done e in split (call_fits c) (λ h. h) (λ h. let z : ◌≡◌ {A = ℕ} 2 0 = rw h at d in absurd (omega arith))
 
   pub receipt_record : receipt n c r b ≡ layout.written → (has_record c and not (record_fits r)) ≡ false
-  unfolding by_numbers if◌then◌else◌
+  unfolding by_numbers when◌then◌else◌
   receipt_record e =
       let d = done e in
       let k = receipt_call e in
       split (has_record c and not (record_fits r)) (λ h. let z : ◌≡◌ {A = ℕ} 3 0 = rw (k, h) at d in absurd (omega arith)) (λ h. h)
 
   -- Lengths of the layout, and no record that doesn't fit: the call alone decides.
-  pub receipt_by_call : (has_record c and not (record_fits r)) ≡ false → Lent n (length c) (length r) b → receipt n c r b ≡ (if call_fits c then layout.written else layout.bad_call)
-  unfolding by_numbers if◌then◌else◌
+  pub receipt_by_call : (has_record c and not (record_fits r)) ≡ false → Lent n (length c) (length r) b → receipt n c r b ≡ (when call_fits c then layout.written else layout.bad_call)
+  unfolding by_numbers when◌then◌else◌
   receipt_by_call h l = sym (receipt_read (of_lent n (length c) (length r) b l)) ∙ split (call_fits c) (λ k. rw (k, h)) (λ k. rw k)
 
   -- Only a record that doesn't fit is turned away as one.
   pub receipt_not_3 : (has_record c and not (record_fits r)) ≡ false → receipt n c r b ≡ layout.bad_record → ⊥
-  unfolding receipt if◌then◌else◌
+  unfolding receipt when◌then◌else◌
   receipt_not_3 h e =
       split (eqb n sheet_length)
       (λ i. split (eqb (length c) call_length)
@@ -121,7 +121,7 @@ module _ (n : ℕ) (c r : List ℕ) (b : ℕ) where
       (λ i. let z : ◌≡◌ {A = ℕ} 4 3 = rw i at e in omega arith)
 
   pub receipt_done : Lent n (length c) (length r) b → call_fits c ≡ true → (has_record c ≡ true → record_fits r ≡ true) → receipt n c r b ≡ layout.written
-  unfolding by_numbers if◌then◌else◌ ◌and◌
+  unfolding by_numbers when◌then◌else◌ ◌and◌
   receipt_done l k g =
       sym (receipt_read (of_lent n (length c) (length r) b l))
       ∙ split (has_record c) (λ a. let m = g a in rw (k, a, m)) (λ a. rw (k, a))
@@ -160,15 +160,15 @@ two_of (x ∷ y ∷ z ∷ l) e = absurd (omega arith)
 -- The tests, one by one: of a sheet's length n and the room for the two numbers.
 module _ (n room : ℕ) where
   pub other_sheet : (n ≡ sheet_length → ⊥) → layout.bad_sheet_length ≡ verdict_receipt n room
-  unfolding verdict_receipt if◌then◌else◌
+  unfolding verdict_receipt when◌then◌else◌
   other_sheet h = simp (ne_eqb _ _ h)
 
   pub no_room : n ≡ sheet_length → room < verdict_length → layout.short_buffer ≡ verdict_receipt n room
-  unfolding verdict_receipt if◌then◌else◌
+  unfolding verdict_receipt when◌then◌else◌
   no_room h g = simp (eq-eqb _ _ h, lt-ltb _ _ g)
 
   pub has_both : n ≡ sheet_length → verdict_length ≤ room → layout.written ≡ verdict_receipt n room
-  unfolding verdict_receipt if◌then◌else◌
+  unfolding verdict_receipt when◌then◌else◌
   has_both h g = simp (eq-eqb _ _ h, le-ltb _ _ g)
 
 module _ (w : List ℕ) (n : ℕ) (k : Ceilings) (b : List ℕ) where

@@ -1,6 +1,6 @@
 -- How the lent numbers of a run record and of a call are read (docs/NUMBERS.md), and which numbers their fields can hold.
 use Rattle.std.specs.Prelude.{Bool, ◌&&◌, List, [], ◌∷◌, ℕ, ◌+◌, ◌%◌, ◌^◌, get_or, ltb, eqb}
-use Rattle.laws.specs.Bool.{if◌then◌else◌}
+use Rattle.laws.specs.Bool.{when◌then◌else◌}
 use Rattle.laws.specs.Rows.{span}
 use Rattle.laws.specs.Every.{every, below}
 use Rattle.graph.specs.declared.Ceilings.{Ceilings}
@@ -35,11 +35,11 @@ error_of code node detail = record { code = narrow code; node = narrow node; det
 
 unfoldable pub output_of : (tag first second third : ℕ) → Output
 output_of tag first second third =
-    if eqb tag 0 then Output.Nothing else
-    if eqb tag 1 then Output.Handle (narrow first) else Output.Error (error_of first second third)
+    when eqb tag 0 then Output.Nothing else
+    when eqb tag 1 then Output.Handle (narrow first) else Output.Error (error_of first second third)
 
 unfoldable pub kept_of : (tag first second third : ℕ) → Kept
-kept_of tag first second third = if eqb tag 0 then Kept.Nothing else Kept.Error (error_of first second third)
+kept_of tag first second third = when eqb tag 0 then Kept.Nothing else Kept.Error (error_of first second third)
 
 -- ROWS OF A RECORD.
 unfoldable pub signal_of : List ℕ → ℕ → BufferedSignal
@@ -201,13 +201,13 @@ error_fits code node detail = ltb code 65536 && ltb node 256 && ltb detail (2 ^ 
 
 unfoldable pub output_fits : (tag first second third : ℕ) → Bool
 output_fits tag first second third =
-    if eqb tag 0 then eqb first 0 && eqb second 0 && eqb third 0 else
-    if eqb tag 1 then ltb first (2 ^ 32) && eqb second 0 && eqb third 0 else
+    when eqb tag 0 then eqb first 0 && eqb second 0 && eqb third 0 else
+    when eqb tag 1 then ltb first (2 ^ 32) && eqb second 0 && eqb third 0 else
     (eqb tag 2 && error_fits first second third)
 
 unfoldable pub kept_fits : (tag first second third : ℕ) → Bool
 kept_fits tag first second third =
-    if eqb tag 0 then eqb first 0 && eqb second 0 && eqb third 0 else
+    when eqb tag 0 then eqb first 0 && eqb second 0 && eqb third 0 else
     (eqb tag 1 && error_fits first second third)
 
 -- THE RECORD. Its last sequence and last accepted time, and the sequence of a stored signal, are any numbers.

@@ -1,6 +1,6 @@
 -- How a host reads the numbers of a written answer (docs/NUMBERS.md): as they stand.
 use Rattle.std.specs.Prelude.{List, ℕ, ◌+◌, drop, eqb}
-use Rattle.laws.specs.Bool.{if◌then◌else◌}
+use Rattle.laws.specs.Bool.{when◌then◌else◌}
 use Rattle.laws.specs.Rows.{span}
 use Rattle.model.specs.declared.answer.Params.{Params}
 use Rattle.model.specs.declared.answer.ScheduleActivity.{ScheduleActivity}
@@ -15,7 +15,7 @@ use Rattle.host.specs.Read.{at, record_of}
 
 -- The order: none, a schedule, a retry.
 abbrev pub params_from : (has handle : ℕ) → Params
-params_from has handle = if eqb has 0 then Params.Nothing else Params.Handle handle
+params_from has handle = when eqb has 0 then Params.Nothing else Params.Handle handle
 
 abbrev pub schedule_from : List ℕ → ScheduleActivity
 schedule_from numbers =
@@ -40,8 +40,8 @@ retry_from numbers =
 
 unfoldable pub order_from : List ℕ → Order
 order_from numbers =
-    if eqb (at numbers layout.answer_order) 0 then Order.Nothing else
-    if eqb (at numbers layout.answer_order) 1 then Order.Schedule (schedule_from numbers) else Order.Retry (retry_from numbers)
+    when eqb (at numbers layout.answer_order) 0 then Order.Nothing else
+    when eqb (at numbers layout.answer_order) 1 then Order.Schedule (schedule_from numbers) else Order.Retry (retry_from numbers)
 
 -- A note and an ending.
 unfoldable pub note_from : List ℕ → ℕ → Note
@@ -70,7 +70,7 @@ accepted_from numbers =
 
 unfoldable pub answer_of_numbers : List ℕ → Answer
 answer_of_numbers numbers =
-    if eqb (at numbers layout.answer_kind) 1 then next (accepted_from numbers) else
-    if eqb (at numbers layout.answer_kind) 2 then
+    when eqb (at numbers layout.answer_kind) 1 then next (accepted_from numbers) else
+    when eqb (at numbers layout.answer_kind) 2 then
     wants (at numbers layout.answer_want_node) (at numbers layout.answer_want_field) (at numbers layout.answer_want_from) (record_of (drop layout.answer_record numbers))
     else refused (at numbers layout.answer_refusal_number) (at numbers layout.answer_refusal_item)

@@ -2,7 +2,7 @@
 use Rattle.std.specs.Prelude.{◌≡◌, refl, true, ℕ, eqb, length, take, drop}
 use Rattle.std.proofs.Common.{sym, ap, ◌∙◌, arith, take_at, drop_at}
 use mathlib.Core.List.{List, [], ◌∷◌, ◌++◌, flat_map, append_assoc}
-use Rattle.laws.specs.Bool.{if◌then◌else◌}
+use Rattle.laws.specs.Bool.{when◌then◌else◌}
 use Rattle.model.specs.declared.Output.{Output}
 use Rattle.model.specs.declared.Kept.{Kept}
 use Rattle.model.specs.declared.BufferedSignal.{BufferedSignal}
@@ -50,11 +50,11 @@ streak_same x y e = ap (λ (ns : List ℕ). record { outcome = at ns 0; count = 
 
 output_from : List ℕ → Output
 output_from ns =
-    if eqb (at ns 0) 0 then Output.Nothing else
-    if eqb (at ns 0) 1 then Output.Handle (at ns 1) else Output.Error (record { code = at ns 1; node = at ns 2; detail = at ns 3 })
+    when eqb (at ns 0) 0 then Output.Nothing else
+    when eqb (at ns 0) 1 then Output.Handle (at ns 1) else Output.Error (record { code = at ns 1; node = at ns 2; detail = at ns 3 })
 
 output_known : (x : Output) → output_from (output_numbers x) ≡ x
-unfolding output_numbers output_from if◌then◌else◌
+unfolding output_numbers output_from when◌then◌else◌
 output_known Output.Nothing = refl
 output_known (Output.Handle x) = refl
 output_known (Output.Error x) = refl
@@ -63,10 +63,10 @@ output_same : (x y : Output) → output_numbers x ≡ output_numbers y → x ≡
 output_same x y e = sym (output_known x) ∙ ap output_from e ∙ output_known y
 
 kept_from : List ℕ → Kept
-kept_from ns = if eqb (at ns 0) 0 then Kept.Nothing else Kept.Error (record { code = at ns 1; node = at ns 2; detail = at ns 3 })
+kept_from ns = when eqb (at ns 0) 0 then Kept.Nothing else Kept.Error (record { code = at ns 1; node = at ns 2; detail = at ns 3 })
 
 kept_known : (x : Kept) → kept_from (kept_numbers x) ≡ x
-unfolding kept_numbers kept_from if◌then◌else◌
+unfolding kept_numbers kept_from when◌then◌else◌
 kept_known Kept.Nothing = refl
 kept_known (Kept.Error x) = refl
 

@@ -1,7 +1,7 @@
 -- How a run record, an event and an answer stand as numbers (docs/NUMBERS.md).
 use Rattle.std.specs.Prelude.{Bool, ℕ, replicate}
 use mathlib.Core.List.{List, [], ◌∷◌, ◌++◌, flat_map}
-use Rattle.laws.specs.Bool.{if◌then◌else◌}
+use Rattle.laws.specs.Bool.{when◌then◌else◌}
 use Rattle.model.specs.declared.BufferedSignal.{BufferedSignal}
 use Rattle.model.specs.declared.Visits.{Visits}
 use Rattle.model.specs.declared.Streak.{Streak}
@@ -51,7 +51,7 @@ record_numbers state =
 
 -- THE EVENT: the numbers of a call from its sequence on. A mark is 1 or 0.
 abbrev pub marked : Bool → ℕ
-marked is = if is then 1 else 0
+marked is = when is then 1 else 0
 
 unfoldable pub event_numbers : Event → List ℕ
 event_numbers event =

@@ -11,7 +11,7 @@ use Rattle.std.proofs.lemmas.List.{length-replicate, replicate-append-replicate,
 use Rattle.std.proofs.Math.Seq.{length-take-le, drop-append-add}
 use Rattle.std.specs.Int.Bits.{bit_or, or_add_and}
 use Rattle.std.proofs.lemmas.Nat.{and_le_l, and_le_r}
-use Rattle.laws.specs.Bool.{if◌then◌else◌, split}
+use Rattle.laws.specs.Bool.{when◌then◌else◌, split}
 use Rattle.laws.specs.Splice.{splice, splice_one, splice_more, length_splice, length_flat, Written, write_start, write_next}
 use Rattle.laws.specs.Listing.{padded}
 use Rattle.model.specs.declared.Output.{Output}
@@ -116,7 +116,7 @@ pub joined_start : {A : Type 0} {d : A} {xs : List A} {n k digits : ℕ} → len
 joined_start e = record { long = e; empty = λ p j a b. absurd (omega arith) }
 
 unfoldable pub rows_of : (digits count all : ℕ) → ℕ
-rows_of digits count all = if eqb digits 0 then count else all
+rows_of digits count all = when eqb digits 0 then count else all
 
 module _ {A : Type 0} {d : A} {xs : List A} {n k i digits : ℕ} (inv : Joined d xs n k i digits) where
   pub joined_next : (e : A) {x : ℕ} → i < n → (x ≡ 0 → get_or xs i e ≡ d) → Joined d xs n k (i + 1) (bit_or digits x)
@@ -131,7 +131,7 @@ module _ {A : Type 0} {d : A} {xs : List A} {n k i digits : ℕ} (inv : Joined d
       }
 
   pub joined_end : {rows : ℕ} → rows ≡ rows_of digits k n → k ≤ n → n ≤ i → EmptyPast d xs n rows
-  unfolding rows_of if◌then◌else◌
+  unfolding rows_of when◌then◌else◌
   joined_end {rows} e low h =
       rw e (split (eqb digits 0) (λ q. rw q (record { low = low; empty = λ j a b. inv.empty (eqb-true digits 0 q) j a (omega arith) }))
       (λ q. rw q (record { low = omega arith; empty = λ j a b. absurd (omega arith) })))

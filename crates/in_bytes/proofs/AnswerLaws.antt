@@ -7,7 +7,7 @@ use Prim.Native.Nat.{ℕ, ◌+◌, ◌*◌, ◌-◌, ◌≤◌, min}
 use native.Mathlib.Omega.{arith}
 use Rattle.std.proofs.Math.ListN.{get_or, take, drop, length-take}
 use Rattle.std.proofs.Math.Seq.{take-add, drop-drop, get_or-take}
-use Rattle.laws.specs.Bool.{if◌then◌else◌, split}
+use Rattle.laws.specs.Bool.{when◌then◌else◌, split}
 use Rattle.laws.specs.Splice.{splice, splice_more}
 use Rattle.laws.specs.All.{All}
 use Rattle.host.specs.Layout as layout
@@ -41,11 +41,11 @@ want_stages_exact = (numbers_stage layout.want_width, (column_stage (layout.answ
 
 module _ (kind : ℕ) where
   pub answer_exact : Exact (answer kind)
-  unfolding answer next want if◌then◌else◌
+  unfolding answer next want when◌then◌else◌
   answer_exact = split (eqb kind 1) (λ h. rw h (staged_exact next_stages [] next_stages_exact)) (λ h. rw h (staged_exact want_stages [] want_stages_exact))
 
   pub answer_width : (answer kind).width ≡ layout.answer_length
-  unfolding answer next want if◌then◌else◌ widths
+  unfolding answer next want when◌then◌else◌ widths
   answer_width = split (eqb kind 1) (λ h. rw h (staged_width next_stages [] next_stages_exact)) (λ h. rw h (staged_width want_stages [] want_stages_exact))
 
 -- ITS FIELDS. The first numbers of the first numbers.
@@ -87,7 +87,7 @@ module _ (ns : List ℕ) where
       rw (d, run_width, e)
 
   answer_parts : (answer (get_or ns layout.answer_kind 0)).fields ns ≡ answer_head ns ++ from_run
-  unfolding answer answer_head if◌then◌else◌
+  unfolding answer answer_head when◌then◌else◌
   answer_parts = split (eqb (get_or ns 0 0) 1) (λ h. rw (h, append_assoc) next_parts) (λ h. rw h want_parts)
 
 -- BYTES IN TWO PARTS: how many they are; and both parts written.
@@ -103,18 +103,18 @@ module _ {whole xs ys : List ℕ} (parts : BytesFirst whole xs ys) where
 -- What stands before the run, by the kind.
 module _ (ns : List ℕ) where
   pub next_head : {p q : ℕ} → get_or ns layout.answer_kind 0 ≡ 1 → p ≡ notes_end ns → q ≡ layout.answer_endings + ended ns → BytesFirst (bytes_of (answer_head ns)) (bytes_of (part ns 0 p)) (bytes_of (part ns layout.answer_endings q))
-  unfolding answer_head part if◌then◌else◌
+  unfolding answer_head part when◌then◌else◌
   next_head {p} {q} kind e f =
       let a : p - 0 ≡ notes_end ns = omega arith in
       let b : q - layout.answer_endings ≡ ended ns = omega arith in
       record { is = rw (eq-eqb (get_or ns layout.answer_kind 0) 1 kind, a, b) (bytes_append _ _) }
 
   pub want_head : (get_or ns layout.answer_kind 0 ≡ 1 → ⊥) → answer_head ns ≡ part ns 0 layout.want_width
-  unfolding answer_head part if◌then◌else◌
+  unfolding answer_head part when◌then◌else◌
   want_head other = rw (ne_eqb (get_or ns layout.answer_kind 0) 1 other)
 
   head_long : length (answer_head ns) ≤ layout.answer_record
-  unfolding answer_head if◌then◌else◌
+  unfolding answer_head when◌then◌else◌
   head_long =
       split (eqb (get_or ns layout.answer_kind 0) 1)
       (λ h.

@@ -5,7 +5,7 @@ use Rattle.std.proofs.Common.{sym, ap, ◌∙◌, append-nil, arith}
 use Rattle.std.proofs.Math.ListN.{length}
 use Rattle.std.proofs.Math.Seq.{drop-length}
 use borrow.Author.Tests.{eq-eqb, ne_eqb, eqb-true}
-use Rattle.laws.specs.Bool.{if◌then◌else◌, split, join}
+use Rattle.laws.specs.Bool.{when◌then◌else◌, split, join}
 use Rattle.workflow.specs.Layout.{numbers as sheet_length}
 use Rattle.host.specs.Layout as layout
 use Rattle.host.specs.Read.{record_fits}
@@ -29,19 +29,19 @@ use Rattle.in_bytes.specs.BoundaryLaws.{all_back, into_done, sheet_into, run_int
 not_done : {G : Type 0} {number item size : ℕ} {contents : List ℕ} → refused number item ≡ done size contents → G
 not_done {G} {number} {item} {size} {contents} e = let z : ◌≡◌ {A = ℕ} 0 1 = cc in absurd (omega arith)
 
-pub passed : (test : Bool) (number item : ℕ) (more : Outcome) {size : ℕ} {contents : List ℕ} → (if not test then refused number item else more) ≡ done size contents → (test ≡ true) × (more ≡ done size contents)
-unfolding if◌then◌else◌
+pub passed : (test : Bool) (number item : ℕ) (more : Outcome) {size : ℕ} {contents : List ℕ} → (when not test then refused number item else more) ≡ done size contents → (test ≡ true) × (more ≡ done size contents)
+unfolding when◌then◌else◌
 passed true number item more e = (refl, e)
 passed false number item more e = not_done e
 
 into_bytes : (room : ℕ) (xs : List ℕ) {size : ℕ} {bytes : List ℕ} → into room xs ≡ done size bytes → bytes ≡ xs
-unfolding into if◌then◌else◌
+unfolding into when◌then◌else◌
 into_bytes room xs {size} {bytes} e = split (ltb room (length xs)) (λ t. not_done (rw t at e)) (λ t. let f : done (length xs) xs ≡ done size bytes = rw t at e in cc)
 
 module _ (shape : Shape) (exact : Exact shape) (fits : List ℕ → Bool) (ns : List ℕ) where
   -- The bytes of numbers that fit are read as them.
   back : (room : ℕ) {size : ℕ} {bytes : List ℕ} → shape.tidy ns ≡ true → fits ns ≡ true → into room (bytes_of (shape.fields ns)) ≡ done size bytes → taken fits (whole shape bytes) ≡ done 0 ns
-  unfolding ended if◌then◌else◌
+  unfolding ended when◌then◌else◌
   back room tidy fit e =
       let n = length (bytes_of (shape.fields ns)) in
       let w : whole shape (bytes_of (shape.fields ns)) ≡ got ns n = rw (all_back shape exact ns tidy, eq-eqb n n refl) in
@@ -66,7 +66,7 @@ module _ (shape : Shape) (exact : Exact shape) (fits : List ℕ → Bool) (ns : 
         }
 
     by_read : {size : ℕ} (r : Read (List ℕ)) → shape.read bytes 0 ≡ r → taken fits (ended (length bytes) r) ≡ done size ns → ReadOf bytes
-    unfolding taken ended if◌then◌else◌
+    unfolding taken ended when◌then◌else◌
     by_read {size} bad e h = not_done h
     by_read {size} (got ms next) e h =
         split (eqb next (length bytes))
@@ -126,7 +126,7 @@ event_only ns bytes room good e h =
 -- NO LONGER: ten bytes for each number that a shape has are the most. Longer bytes are bad, of a call too.
 module _ (shape : Shape) (exact : Exact shape) (bytes : List ℕ) (good : Bytes bytes) (long : 10 * shape.width < length bytes) where
   longer : (r : Read (List ℕ)) → shape.read bytes 0 ≡ r → ended (length bytes) r ≡ bad
-  unfolding ended if◌then◌else◌
+  unfolding ended when◌then◌else◌
   longer bad e = refl
   longer (got ns next) e =
       let is = exact.only bytes ns 0 next good e in

@@ -5,7 +5,7 @@ use Rattle.std.proofs.Common.{sym, ◌∙◌, arith, length-append, length-drop,
 use Rattle.std.proofs.lemmas.Bool.{false≢true}
 use mathlib.Core.List.{List}
 use Rattle.std.proofs.Math.Seq.{take-length}
-use Rattle.laws.specs.Bool.{if◌then◌else◌, split, if_true, if_false}
+use Rattle.laws.specs.Bool.{when◌then◌else◌, split, if_true, if_false}
 use Rattle.laws.specs.Splice.{splice, splice_all}
 use Rattle.workflow.specs.Layout.{numbers as sheet_length}
 use Rattle.host.specs.Layout as layout
@@ -158,11 +158,11 @@ module _ (bytes : List ℕ) where
 
     module _ (size room : ℕ) where
       pub on_other : (size ≡ sheet_length → ⊥) → call_bytes_on sheet size bytes room ≡ refused layout.bad_sheet_length 0
-      unfolding call_bytes_on if◌then◌else◌
+      unfolding call_bytes_on when◌then◌else◌
       on_other h = rw (ne_eqb size sheet_length h)
 
       pub on_told : size ≡ sheet_length → call_bytes_on sheet size bytes room ≡ told room (decide_on sheet bytes)
-      unfolding call_bytes_on if◌then◌else◌
+      unfolding call_bytes_on when◌then◌else◌
       on_told h = rw (eq-eqb size sheet_length h)
 
 -- WHAT IS TOLD, once it is known whether there are numbers.

@@ -8,7 +8,7 @@ use native.Mathlib.Omega.{arith}
 use Rattle.std.proofs.Math.ListN.{length, get_or, take, drop, length-append}
 use Rattle.std.proofs.lemmas.List.{length-replicate}
 use Rattle.std.proofs.Math.Seq.{take_at, drop_at, get_or-append-add}
-use Rattle.laws.specs.Bool.{if◌then◌else◌, split}
+use Rattle.laws.specs.Bool.{when◌then◌else◌, split}
 use Rattle.laws.specs.Splice.{splice, splice_all, splice_more, length_splice}
 use Rattle.laws.specs.Listing.{padded}
 use Rattle.host.specs.Layout as layout
@@ -145,11 +145,11 @@ module _ (bytes : List ℕ) (start : ℕ) {z : Place} (answer : z ≡ place_of (
 
 -- THE RUN. Where the mark is 1 there is one.
 same_mark : (n : ℕ) → given_shape (marked (eqb n 1)) ≡ given_shape n
-unfolding if◌then◌else◌
+unfolding when◌then◌else◌
 same_mark n = split (eqb n 1) (λ t. rw t) (λ t. rw t)
 
 pub one_given : (has : Bool) → has ≡ true → given_shape (marked has) ≡ run
-unfolding if◌then◌else◌
+unfolding when◌then◌else◌
 one_given has e = rw e
 
 no_column : (room : ℕ) (bytes : List ℕ) (at : ℕ) → (column (2 ^ 64) room 0).read bytes at ≡ got (replicate room 0) at
@@ -160,7 +160,7 @@ no_column room bytes at =
 
 module _ (has : Bool) (bytes : List ℕ) (at : ℕ) (none : has ≡ false) where
   none_read : (given_shape (marked has)).read bytes at ≡ got (replicate layout.record_length 0) at
-  unfolding if◌then◌else◌
+  unfolding when◌then◌else◌
   none_read = rw none (no_column layout.record_length bytes at)
 
   pub none_place : Place.At at ≡ place_of ((given_shape (marked has)).read bytes at)

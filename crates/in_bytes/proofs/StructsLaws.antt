@@ -9,7 +9,7 @@ use native.Mathlib.Omega.{arith}
 use Rattle.std.proofs.Math.ListN.{length}
 use Rattle.std.proofs.Math.Seq.{take_all, drop_at, take-append-add}
 use borrow.Author.Tests.{eq-eqb}
-use Rattle.laws.specs.Bool.{if◌then◌else◌}
+use Rattle.laws.specs.Bool.{when◌then◌else◌}
 use Rattle.laws.specs.Rows.{rows, rows_all}
 use Rattle.model.specs.declared.Streak.{Streak}
 use Rattle.model.specs.declared.NodeResult.{NodeResult}
@@ -115,7 +115,7 @@ module _ (s : State) (h : Whole s) where
 
   -- A state is written as its numbers are.
   pub state_written : (room : ℕ) {ns : List ℕ} → ns ≡ record_numbers s → write_run ns room ≡ of_state s room
-  unfolding write_run of_state if◌then◌else◌
+  unfolding write_run of_state when◌then◌else◌
   state_written room e = rw (e, eq-eqb (length (record_numbers s)) layout.record_length (length_record s h), state_fields_are)
 
 length_event : (e : Event) → length (event_numbers e) ≡ layout.event_length
@@ -123,7 +123,7 @@ unfolding event_numbers
 length_event e = refl
 
 pub event_written : (e : Event) (room : ℕ) {ns : List ℕ} → ns ≡ event_numbers e → write_event ns room ≡ of_event e room
-unfolding write_event of_event event numbers if◌then◌else◌
+unfolding write_event of_event event numbers when◌then◌else◌
 event_written e room is = rw (is, eq-eqb (length (event_numbers e)) layout.event_length (length_event e))
 
 -- BOTH WAYS. What is written of a state is read as its numbers, which are the state's; and bytes from which a run is read are what is written of its state.
@@ -140,7 +140,7 @@ state_only ns bytes room good e h =
 
 -- What is written of an event, whose numbers have 64 bits, is read as them, and they are the event's.
 mark_back : (is : Bool) → eqb (marked is) 1 ≡ is
-unfolding if◌then◌else◌
+unfolding when◌then◌else◌
 mark_back true = refl
 mark_back false = refl
 
@@ -174,7 +174,7 @@ event_back e below room o = let fits = (passed (event_fits (event_numbers e)) la
 
 -- Numbers of an event that fit are those of the event that is read from them; f gives them by their places.
 mark_again : (x : ℕ) → x < 2 → marked (eqb x 1) ≡ x
-unfolding if◌then◌else◌
+unfolding when◌then◌else◌
 mark_again zero h = refl
 mark_again (suc zero) h = refl
 mark_again (suc (suc x)) h = absurd (omega arith)

@@ -1,6 +1,6 @@
 -- An answer as bytes (docs/BYTES.md): a next record, with as many notes and endings as it has, or a want; the run stands last.
 use Rattle.std.specs.Prelude.{List, [], ◌∷◌, ◌++◌, ℕ, ◌+◌, ◌*◌, ◌-◌, ◌^◌, min, eqb, get_or, take, drop}
-use Rattle.laws.specs.Bool.{if◌then◌else◌}
+use Rattle.laws.specs.Bool.{when◌then◌else◌}
 use Rattle.host.specs.Layout as layout
 use Rattle.codec.specs.Stages.{Shape, numbers, column, Stage, staged}
 use Rattle.in_bytes.specs.Run.{run}
@@ -35,12 +35,12 @@ unfoldable pub want : Shape
 want = staged want_stages []
 
 unfoldable pub answer : (kind : ℕ) → Shape
-answer kind = if eqb kind 1 then next else want
+answer kind = when eqb kind 1 then next else want
 
 -- What stands before the run: of a next record its single numbers and its notes, then its endings.
 unfoldable pub answer_head : List ℕ → List ℕ
 answer_head ns =
-    if eqb (get_or ns layout.answer_kind 0) 1 then
+    when eqb (get_or ns layout.answer_kind 0) 1 then
     take (layout.answer_notes + layout.note_width * min (get_or ns layout.answer_noted 0) layout.notes) ns
     ++ take (layout.ending_width * min (get_or ns layout.answer_ended 0) layout.endings) (drop layout.answer_endings ns)
     else take layout.want_width ns

@@ -1,6 +1,6 @@
 -- What the exported functions return and leave (docs/BYTES.md).
 use Rattle.std.specs.Prelude.{◌≡◌, Bool, true, false, not, List, ℕ, ◌+◌, ◌*◌, ◌^◌, ltb, eqb, length}
-use Rattle.laws.specs.Bool.{if◌then◌else◌}
+use Rattle.laws.specs.Bool.{when◌then◌else◌}
 use Rattle.laws.specs.Splice.{splice}
 use Rattle.workflow.specs.Layout.{numbers as sheet_length}
 use Rattle.host.specs.Layout as layout
@@ -51,44 +51,44 @@ left (refused number item) array = array
 
 -- A WRITE. Room is the buffer's length.
 unfoldable pub into : (room : ℕ) → List ℕ → Outcome
-into room bytes = if ltb room (length bytes) then refused short no_item else done (length bytes) bytes
+into room bytes = when ltb room (length bytes) then refused short no_item else done (length bytes) bytes
 
 unfoldable pub write_sheet : (ns : List ℕ) (room : ℕ) → Outcome
 write_sheet ns room =
-    if not (eqb (length ns) sheet_length) then refused layout.bad_sheet_length 0 else
-    if not (sheet.tidy ns) then refused bad_form no_item else into room (bytes_of (sheet.fields ns))
+    when not (eqb (length ns) sheet_length) then refused layout.bad_sheet_length 0 else
+    when not (sheet.tidy ns) then refused bad_form no_item else into room (bytes_of (sheet.fields ns))
 
 unfoldable pub write_run : (ns : List ℕ) (room : ℕ) → Outcome
 write_run ns room =
-    if not (eqb (length ns) layout.record_length) then refused layout.bad_record_length 0 else
-    if not (record_fits ns) then refused layout.bad_record 0 else
-    if not (run.tidy ns) then refused bad_run no_item else into room (bytes_of (run.fields ns))
+    when not (eqb (length ns) layout.record_length) then refused layout.bad_record_length 0 else
+    when not (record_fits ns) then refused layout.bad_record 0 else
+    when not (run.tidy ns) then refused bad_run no_item else into room (bytes_of (run.fields ns))
 
 unfoldable pub write_event : (ns : List ℕ) (room : ℕ) → Outcome
 write_event ns room =
-    if not (eqb (length ns) layout.event_length) then refused layout.bad_call_length 0 else
-    if not (event_fits ns) then refused layout.bad_call 0 else into room (bytes_of (event.fields ns))
+    when not (eqb (length ns) layout.event_length) then refused layout.bad_call_length 0 else
+    when not (event_fits ns) then refused layout.bad_call 0 else into room (bytes_of (event.fields ns))
 
 -- A READ: all the bytes, and numbers that pass a test.
 unfoldable pub ended : (size : ℕ) → Read (List ℕ) → Read (List ℕ)
-ended size (got ns next) = if eqb next size then got ns next else bad
+ended size (got ns next) = when eqb next size then got ns next else bad
 ended size bad = bad
 
 abbrev pub whole : Shape → List ℕ → Read (List ℕ)
 whole shape bytes = ended (length bytes) (shape.read bytes 0)
 
 unfoldable pub taken : (fits : List ℕ → Bool) → Read (List ℕ) → Outcome
-taken fits (got ns next) = if fits ns then done 0 ns else refused bad_bytes no_item
+taken fits (got ns next) = when fits ns then done 0 ns else refused bad_bytes no_item
 taken fits bad = refused bad_bytes no_item
 
 unfoldable pub read_sheet : (bytes : List ℕ) (size : ℕ) → Outcome
-read_sheet bytes size = if not (eqb size sheet_length) then refused layout.bad_sheet_length 0 else taken (λ _. true) (whole sheet bytes)
+read_sheet bytes size = when not (eqb size sheet_length) then refused layout.bad_sheet_length 0 else taken (λ _. true) (whole sheet bytes)
 
 unfoldable pub read_run : (bytes : List ℕ) (size : ℕ) → Outcome
-read_run bytes size = if not (eqb size layout.record_length) then refused layout.bad_record_length 0 else taken record_fits (whole run bytes)
+read_run bytes size = when not (eqb size layout.record_length) then refused layout.bad_record_length 0 else taken record_fits (whole run bytes)
 
 unfoldable pub read_event : (bytes : List ℕ) (size : ℕ) → Outcome
-read_event bytes size = if not (eqb size layout.event_length) then refused layout.bad_call_length 0 else taken event_fits (whole event bytes)
+read_event bytes size = when not (eqb size layout.event_length) then refused layout.bad_call_length 0 else taken event_fits (whole event bytes)
 
 -- A CALL. The numbers of its answer; or the bytes are bad: also where they give a number that its field can't hold.
 pub data Decided : Type 0 where
@@ -97,7 +97,7 @@ pub data Decided : Type 0 where
 
 unfoldable pub on_numbers : (sheet call given : List ℕ) → Decided
 on_numbers sheet call given =
-    if eqb (receipt sheet_length call given layout.answer_length) layout.written then said (decision_numbers (decided sheet call given)) else unread
+    when eqb (receipt sheet_length call given layout.answer_length) layout.written then said (decision_numbers (decided sheet call given)) else unread
 
 unfoldable pub decide : (bytes : List ℕ) → Decided
 decide bytes = by_parts (whole call bytes)
@@ -117,7 +117,7 @@ decide_on sheet bytes = by_parts (whole call_on bytes)
 -- What is told of it: a refusal has no bytes.
 unfoldable pub told : (room : ℕ) → Decided → Outcome
 told room (said ns) =
-    if eqb (at ns layout.answer_kind) 3 then refused (at ns layout.answer_refusal_number) (at ns layout.answer_refusal_item) else
+    when eqb (at ns layout.answer_kind) 3 then refused (at ns layout.answer_refusal_number) (at ns layout.answer_refusal_item) else
     into room (bytes_of ((answer (at ns layout.answer_kind)).fields ns))
 told room unread = refused bad_bytes no_item
 
@@ -125,7 +125,7 @@ abbrev pub call_bytes : (bytes : List ℕ) (room : ℕ) → Outcome
 call_bytes bytes room = told room (decide bytes)
 
 unfoldable pub call_bytes_on : (sheet : List ℕ) (size : ℕ) (bytes : List ℕ) (room : ℕ) → Outcome
-call_bytes_on sheet size bytes room = if not (eqb size sheet_length) then refused layout.bad_sheet_length 0 else told room (decide_on sheet bytes)
+call_bytes_on sheet size bytes room = when not (eqb size sheet_length) then refused layout.bad_sheet_length 0 else told room (decide_on sheet bytes)
 
 -- The numbers fill a lent array, where there are any.
 unfoldable pub is_said : Decided → Bool

@@ -6,7 +6,7 @@ use Rattle.std.proofs.Math.Bool.{true, false}
 use Rattle.std.proofs.lemmas.Bool.{false≢true}
 use Rattle.std.proofs.Math.Dec.{eqb}
 use borrow.Author.Tests.{lt-ltb, le-ltb, eq-eqb, ne_eqb, eqb-true}
-use Rattle.laws.specs.Bool.{if◌then◌else◌}
+use Rattle.laws.specs.Bool.{when◌then◌else◌}
 use Rattle.laws.specs.Splice.{splice, splice_all}
 use Rattle.workflow.specs.Layout.{numbers as sheet_length}
 use Rattle.host.specs.Layout as layout
@@ -48,52 +48,52 @@ all_back shape exact ns tidy =
 -- A WRITE.
 module _ (room : ℕ) (bytes : List ℕ) where
   pub into_short : {size : ℕ} → size ≡ length bytes → room < size → into room bytes ≡ refused short no_item
-  unfolding into if◌then◌else◌
+  unfolding into when◌then◌else◌
   into_short e h = rw (lt-ltb room (length bytes) (omega arith))
 
   pub into_done : {size : ℕ} → size ≡ length bytes → size ≤ room → into room bytes ≡ done size bytes
-  unfolding into if◌then◌else◌
+  unfolding into when◌then◌else◌
   into_done e h = rw (le-ltb room (length bytes) (omega arith), e)
 
 module _ (ns : List ℕ) (room : ℕ) where
   pub sheet_other : (length ns ≡ sheet_length → ⊥) → write_sheet ns room ≡ refused layout.bad_sheet_length 0
-  unfolding write_sheet if◌then◌else◌
+  unfolding write_sheet when◌then◌else◌
   sheet_other h = rw (ne_eqb (length ns) sheet_length h)
 
   pub sheet_untidy : length ns ≡ sheet_length → sheet.tidy ns ≡ false → write_sheet ns room ≡ refused bad_form no_item
-  unfolding write_sheet if◌then◌else◌
+  unfolding write_sheet when◌then◌else◌
   sheet_untidy h t = rw (eq-eqb (length ns) sheet_length h, t)
 
   pub sheet_into : length ns ≡ sheet_length → sheet.tidy ns ≡ true → write_sheet ns room ≡ into room (bytes_of (sheet.fields ns))
-  unfolding write_sheet if◌then◌else◌
+  unfolding write_sheet when◌then◌else◌
   sheet_into h t = rw (eq-eqb (length ns) sheet_length h, t)
 
   pub run_other : (length ns ≡ layout.record_length → ⊥) → write_run ns room ≡ refused layout.bad_record_length 0
-  unfolding write_run if◌then◌else◌
+  unfolding write_run when◌then◌else◌
   run_other h = rw (ne_eqb (length ns) layout.record_length h)
 
   pub run_unfit : length ns ≡ layout.record_length → record_fits ns ≡ false → write_run ns room ≡ refused layout.bad_record 0
-  unfolding write_run if◌then◌else◌
+  unfolding write_run when◌then◌else◌
   run_unfit h f = rw (eq-eqb (length ns) layout.record_length h, f)
 
   pub run_untidy : length ns ≡ layout.record_length → record_fits ns ≡ true → run.tidy ns ≡ false → write_run ns room ≡ refused bad_run no_item
-  unfolding write_run if◌then◌else◌
+  unfolding write_run when◌then◌else◌
   run_untidy h f t = rw (eq-eqb (length ns) layout.record_length h, f, t)
 
   pub run_into : length ns ≡ layout.record_length → record_fits ns ≡ true → run.tidy ns ≡ true → write_run ns room ≡ into room (bytes_of (run.fields ns))
-  unfolding write_run if◌then◌else◌
+  unfolding write_run when◌then◌else◌
   run_into h f t = rw (eq-eqb (length ns) layout.record_length h, f, t)
 
   pub event_other : (length ns ≡ layout.event_length → ⊥) → write_event ns room ≡ refused layout.bad_call_length 0
-  unfolding write_event if◌then◌else◌
+  unfolding write_event when◌then◌else◌
   event_other h = rw (ne_eqb (length ns) layout.event_length h)
 
   pub event_unfit : length ns ≡ layout.event_length → event_fits ns ≡ false → write_event ns room ≡ refused layout.bad_call 0
-  unfolding write_event if◌then◌else◌
+  unfolding write_event when◌then◌else◌
   event_unfit h f = rw (eq-eqb (length ns) layout.event_length h, f)
 
   pub event_into : length ns ≡ layout.event_length → event_fits ns ≡ true → write_event ns room ≡ into room (bytes_of ns)
-  unfolding write_event event numbers if◌then◌else◌
+  unfolding write_event event numbers when◌then◌else◌
   event_into h f = rw (eq-eqb (length ns) layout.event_length h, f)
 
 -- A READ. What was read ends where the bytes end.
@@ -108,12 +108,12 @@ pub record Whole (size : ℕ) (read : Read (List ℕ)) : Type 0 where
 
 module _ (size : ℕ) {z : Place} where
   pub not_whole : (read : Read (List ℕ)) → z ≡ place_of read → ends_at size z ≡ false → ended size read ≡ bad
-  unfolding place_of ends_at ended if◌then◌else◌
+  unfolding place_of ends_at ended when◌then◌else◌
   not_whole bad e h = refl
   not_whole (got ns next) e h = let f : eqb next size ≡ false = rw e at h in rw f
 
   pub is_whole : (read : Read (List ℕ)) → z ≡ place_of read → ends_at size z ≡ true → Whole size read
-  unfolding place_of ends_at ended if◌then◌else◌
+  unfolding place_of ends_at ended when◌then◌else◌
   is_whole bad e h = let f : false ≡ true = rw e at h in absurd (false≢true f)
   is_whole (got ns next) e h =
       let f : eqb next size ≡ true = rw e at h in
@@ -136,44 +136,44 @@ module _ (fits : List ℕ → Bool) {read : Read (List ℕ)} where
   taken_bad e = rw e
 
   pub taken_unfit : {ns : List ℕ} {next : ℕ} → read ≡ got ns next → fits ns ≡ false → taken fits read ≡ refused bad_bytes no_item
-  unfolding taken if◌then◌else◌
+  unfolding taken when◌then◌else◌
   taken_unfit e h = rw (e, h)
 
   pub taken_done : {ns : List ℕ} {next : ℕ} → read ≡ got ns next → fits ns ≡ true → taken fits read ≡ done 0 ns
-  unfolding taken if◌then◌else◌
+  unfolding taken when◌then◌else◌
   taken_done e h = rw (e, h)
 
 module _ (bytes : List ℕ) (size : ℕ) where
   pub sheet_room : (size ≡ sheet_length → ⊥) → read_sheet bytes size ≡ refused layout.bad_sheet_length 0
-  unfolding read_sheet if◌then◌else◌
+  unfolding read_sheet when◌then◌else◌
   sheet_room h = rw (ne_eqb size sheet_length h)
 
   pub sheet_taken : size ≡ sheet_length → read_sheet bytes size ≡ taken (λ _. true) (whole sheet bytes)
-  unfolding read_sheet if◌then◌else◌
+  unfolding read_sheet when◌then◌else◌
   sheet_taken h = rw (eq-eqb size sheet_length h)
 
   pub run_room : (size ≡ layout.record_length → ⊥) → read_run bytes size ≡ refused layout.bad_record_length 0
-  unfolding read_run if◌then◌else◌
+  unfolding read_run when◌then◌else◌
   run_room h = rw (ne_eqb size layout.record_length h)
 
   pub run_taken : size ≡ layout.record_length → read_run bytes size ≡ taken record_fits (whole run bytes)
-  unfolding read_run if◌then◌else◌
+  unfolding read_run when◌then◌else◌
   run_taken h = rw (eq-eqb size layout.record_length h)
 
   pub event_room : (size ≡ layout.event_length → ⊥) → read_event bytes size ≡ refused layout.bad_call_length 0
-  unfolding read_event if◌then◌else◌
+  unfolding read_event when◌then◌else◌
   event_room h = rw (ne_eqb size layout.event_length h)
 
   pub event_taken : size ≡ layout.event_length → read_event bytes size ≡ taken event_fits (whole event bytes)
-  unfolding read_event if◌then◌else◌
+  unfolding read_event when◌then◌else◌
   event_taken h = rw (eq-eqb size layout.event_length h)
 
 -- A CALL'S ANSWER.
 module _ (room : ℕ) (ns : List ℕ) where
   pub told_refused : at ns layout.answer_kind ≡ 3 → told room (said ns) ≡ refused (at ns layout.answer_refusal_number) (at ns layout.answer_refusal_item)
-  unfolding told if◌then◌else◌
+  unfolding told when◌then◌else◌
   told_refused h = rw (eq-eqb (at ns layout.answer_kind) 3 h)
 
   pub told_into : (at ns layout.answer_kind ≡ 3 → ⊥) → told room (said ns) ≡ into room (bytes_of ((answer (at ns layout.answer_kind)).fields ns))
-  unfolding told if◌then◌else◌
+  unfolding told when◌then◌else◌
   told_into h = rw (ne_eqb (at ns layout.answer_kind) 3 h)

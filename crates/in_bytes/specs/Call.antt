@@ -1,6 +1,6 @@
 -- A call as bytes (docs/BYTES.md): ceilings and limits; the sheet; 0, or 1 and the run; the event; the mapping answers after their count.
 use Rattle.std.specs.Prelude.{List, [], ◌∷◌, ◌++◌, ℕ, suc, ◌+◌, ◌*◌, ◌^◌, eqb, get_or, take, drop}
-use Rattle.laws.specs.Bool.{if◌then◌else◌}
+use Rattle.laws.specs.Bool.{when◌then◌else◌}
 use Rattle.workflow.specs.Layout.{numbers as sheet_length}
 use Rattle.host.specs.Layout as layout
 use Rattle.codec.specs.Stages.{Shape, numbers, column, Stage, staged}
@@ -12,7 +12,7 @@ abbrev pub mark : Stage
 mark = record { room = 1; shape = λ _. numbers 2 1 }
 
 abbrev pub given_shape : (mark : ℕ) → Shape
-given_shape mark = if eqb mark 1 then run else column (2 ^ 64) layout.record_length 0
+given_shape mark = when eqb mark 1 then run else column (2 ^ 64) layout.record_length 0
 
 abbrev pub given : Stage
 given = record { room = layout.record_length; shape = λ seen. given_shape (get_or seen 0 0) }

@@ -1,7 +1,7 @@
 -- A run record and an event as bytes, by their structs (docs/BYTES.md).
 use Rattle.std.specs.Prelude.{not, ℕ, eqb, drop}
 use mathlib.Core.List.{List, [], ◌∷◌, ◌++◌, flat_map}
-use Rattle.laws.specs.Bool.{if◌then◌else◌}
+use Rattle.laws.specs.Bool.{when◌then◌else◌}
 use Rattle.model.specs.declared.Output.{Output}
 use Rattle.model.specs.declared.Streak.{Streak}
 use Rattle.model.specs.declared.NodeResult.{NodeResult}
@@ -21,7 +21,7 @@ use Rattle.in_bytes.specs.Boundary.{bad_run, no_item, Outcome, refused, into}
 
 -- A streak: its count, and behind a count that isn't 0 its outcome.
 unfoldable pub streak_fields : Streak → List ℕ
-streak_fields streak = if eqb streak.count 0 then 0 ∷ [] else streak.count ∷ streak.outcome ∷ []
+streak_fields streak = when eqb streak.count 0 then 0 ∷ [] else streak.count ∷ streak.outcome ∷ []
 
 -- A node's result: the tag of its output, which is the first of the output's four numbers; and behind a tag that isn't 0 its visit, its outcome and the other three.
 abbrev pub tag : Output → ℕ
@@ -29,7 +29,7 @@ tag output = at (output_numbers output) 0
 
 unfoldable pub result_fields : NodeResult → List ℕ
 result_fields result =
-    if eqb (tag result.output) 0 then 0 ∷ [] else
+    when eqb (tag result.output) 0 then 0 ∷ [] else
     tag result.output ∷ result.visit ∷ result.outcome ∷ drop 1 (output_numbers result.output)
 
 -- The run: its single numbers; the signals that the store lists, in order of arrival; of all nodes the visits, then the streaks, then the results.
@@ -41,9 +41,9 @@ state_fields state =
 -- WHAT COMES OF A WRITE. Room is the buffer's length. A number that its field can't hold is no run and no event.
 unfoldable pub of_state : State → (room : ℕ) → Outcome
 of_state state room =
-    if not (record_fits (record_numbers state)) then refused layout.bad_record 0 else
-    if not (run.tidy (record_numbers state)) then refused bad_run no_item else into room (bytes_of (state_fields state))
+    when not (record_fits (record_numbers state)) then refused layout.bad_record 0 else
+    when not (run.tidy (record_numbers state)) then refused bad_run no_item else into room (bytes_of (state_fields state))
 
 unfoldable pub of_event : Event → (room : ℕ) → Outcome
 of_event event room =
-    if not (event_fits (event_numbers event)) then refused layout.bad_call 0 else into room (bytes_of (event_numbers event))
+    when not (event_fits (event_numbers event)) then refused layout.bad_call 0 else into room (bytes_of (event_numbers event))

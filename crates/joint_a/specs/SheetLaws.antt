@@ -1,7 +1,7 @@
 -- The numbers are read as the sheet of Joint A.
 use Rattle.std.specs.Prelude.{◌≡◌, refl, Bool, true, List, [], ◌∷◌, ℕ, zero, suc, ◌+◌, ◌-◌, ◌≤◌, ◌<◌, min, get_or, set, replicate, eqb, ltb, leb}
 use Rattle.std.proofs.Common.{◌∙◌, arith, get_or-set_other, ltb-true, leb-true, eq-eqb}
-use Rattle.laws.specs.Bool.{if◌then◌else◌, ◌and◌, ◌or◌, both, join, split}
+use Rattle.laws.specs.Bool.{when◌then◌else◌, ◌and◌, ◌or◌, both, join, split}
 use Rattle.laws.specs.Rows.{rows, span}
 use Rattle.laws.specs.Every.{every}
 use Rattle.workflow.specs.Layout as layout
@@ -93,4 +93,4 @@ sheet limit =
     }
 
 pub is_sheet : (x : ℕ) → workflow (numbers x) ≡ sheet x
-is_sheet x = rw (is_blank x) (unfold numbers written span rows node_at route_at limit_at action_at declared_at if◌then◌else◌ in refl)
+is_sheet x = rw (is_blank x) (unfold numbers written span rows node_at route_at limit_at action_at declared_at when◌then◌else◌ in refl)

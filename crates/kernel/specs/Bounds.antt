@@ -4,7 +4,7 @@ use Rattle.std.proofs.Math.Path.{refl, ap, subst}
 use Rattle.std.proofs.Common.{sym, length-append}
 use native.Mathlib.Omega.{arith}
 use Rattle.std.proofs.Math.ListN.{length}
-use Rattle.laws.specs.Bool.{if◌then◌else◌, split, either}
+use Rattle.laws.specs.Bool.{when◌then◌else◌, split, either}
 use Rattle.workflow.specs.View.{Workflow}
 use Rattle.workflow.specs.Lookup.{node_of}
 use Rattle.workflow.specs.declared.Found.{Found}
@@ -79,14 +79,14 @@ module _ (n : Next) (count h : ℕ) (same : (n ≡ Rest → ⊥) → count ≡ h
 
 -- THE LISTS.
 length_added : {A : Type 0} (c : ℕ) (xs : List A) (x : A) → length (added c xs x) ≡ length xs + takes c
-unfolding added takes if◌then◌else◌
+unfolding added takes when◌then◌else◌
 length_added c xs x = split (eqb c 0) (λ h. rw h (omega arith)) (λ h. rw h (omega (arith, length-append xs (x ∷ []))))
 
 one_more : {A : Type 0} (c : ℕ) (xs : List A) (x : A) → length (added c xs x) ≤ length xs + 1
 one_more c xs x = omega (arith, length_added c xs x, takes_small c)
 
 pub none_more : {A : Type 0} {c : ℕ} (xs : List A) (x : A) → c ≡ 0 → added c xs x ≡ xs
-unfolding added if◌then◌else◌
+unfolding added when◌then◌else◌
 none_more xs x e = rw e
 
 -- A machine with n next, and k moves left.

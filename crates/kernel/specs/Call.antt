@@ -1,6 +1,6 @@
 -- A call, whole and in the order of document 01: sheet, event, record, step, finish.
 use Rattle.std.specs.Prelude.{Bool, true, false, not, List, [], ◌∷◌, ◌++◌, ℕ, ◌+◌, ltb, eqb}
-use Rattle.laws.specs.Bool.{if◌then◌else◌}
+use Rattle.laws.specs.Bool.{when◌then◌else◌}
 use Rattle.workflow.specs.View.{Workflow}
 use Rattle.graph.specs.declared.Verdict.{Verdict}
 use Rattle.graph.specs.declared.Verdict.TheVariants.{Fine, Broken}
@@ -83,7 +83,7 @@ pub data Answer : Type 0 where
 -- empty. Nothing is counted or noted for it.
 unfoldable pub closed : Machine → Machine
 closed machine =
-    if leaves_over machine.state.status machine.state.signal_count
+    when leaves_over machine.state.status machine.state.signal_count
     then
     record {
       state = emptied machine.state;
@@ -111,8 +111,8 @@ unfinished = refused invariant none
 
 unfoldable pub finish_by : Next → Limits → Machine → Answer
 finish_by Rest limits machine =
-    if ltb limits.commands (orders machine.order) then refused commands_exceeded none else
-    if ltb limits.operations machine.operations then refused operations_exceeded none else
+    when ltb limits.commands (orders machine.order) then refused commands_exceeded none else
+    when ltb limits.operations machine.operations then refused operations_exceeded none else
     next (accepted_of (closed machine))
 finish_by (Wants node field from) limits machine = wants node field from machine.state
 finish_by (Refuse number) limits machine = refused number none

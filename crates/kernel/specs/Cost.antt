@@ -2,7 +2,7 @@
 use Rattle.std.specs.Prelude.{◌≡◌, Bool, ℕ, ◌+◌, ◌*◌, ◌≤◌, ◌<◌, eqb}
 use Rattle.std.proofs.Math.Path.{refl, ap}
 use Rattle.std.proofs.Common.{arith, leb-false}
-use Rattle.laws.specs.Bool.{if◌then◌else◌, split, either}
+use Rattle.laws.specs.Bool.{when◌then◌else◌, split, either}
 use Rattle.workflow.specs.declared.Found.{Found}
 use Rattle.workflow.specs.declared.Found.TheVariants.{At, Nothing}
 use Rattle.workflow.specs.View.{Workflow}
@@ -36,10 +36,10 @@ cost (Refuse k) h = 0
 
 -- A move that tells an ending ends one signal; an arrival that is to be taken is in hand.
 unfoldable pub takes : (ending : ℕ) → ℕ
-takes e = if eqb e 0 then 0 else 1
+takes e = when eqb e 0 then 0 else 1
 
 pub takes_small : (e : ℕ) → takes e ≤ 1
-unfolding takes if◌then◌else◌
+unfolding takes when◌then◌else◌
 takes_small e = split (eqb e 0) (λ h. rw h (omega arith)) (λ h. rw h (omega arith))
 
 abbrev pub in_hand : Next → ℕ
@@ -89,7 +89,7 @@ removed_count s i h g = rw (removed_at s i h g) (omega arith)
 
 module _ (f : Workflow) where
   -- ENTERING.
-  entered_if : {h : ℕ} (b : Bool) {x y : Move} → Entered h x → Entered h y → Entered h (if b then x else y)
+  entered_if : {h : ℕ} (b : Bool) {x y : Move} → Entered h x → Entered h y → Entered h (when b then x else y)
   entered_if b p q = either (Entered _) b (λ _. p) (λ _. q)
 
   entered_as : (s : State) (k : Next) {o : Order} {r : ℕ} → cost k s.signal_count ≤ 2 * s.signal_count
@@ -126,7 +126,7 @@ module _ (f : Workflow) where
       entered_if _ (entered_as s (Refuse 0) (omega arith)) (entered_if _ (entered_terminate s _) (entered_if _ (entered_terminate s _) (entered_arrive _ n b m)))
 
   -- ROUTING.
-  spares_if : {h : ℕ} (b : Bool) {x y : Move} → Spares h x → Spares h y → Spares h (if b then x else y)
+  spares_if : {h : ℕ} (b : Bool) {x y : Move} → Spares h x → Spares h y → Spares h (when b then x else y)
   spares_if b p q = either (Spares _) b (λ _. p) (λ _. q)
 
   spares_as : (s : State) (k : Next) {x : Note} {o : Order} {r : ℕ} → cost k s.signal_count ≤ 1 + 2 * s.signal_count
@@ -200,7 +200,7 @@ module _ (f : Workflow) where
 
   -- THE EVENTS.
   reacted_spares : (h : ℕ) (v : Move) → Spares h v → Reacted h v
-  unfolding takes if◌then◌else◌
+  unfolding takes when◌then◌else◌
   reacted_spares h v g =
       let c = g.costs.same in
       let t : takes v.ending.ending ≡ 0 = ap (λ (x : Ending). takes x.ending) g.no_end in
@@ -229,12 +229,12 @@ module _ (f : Workflow) where
 
   -- the arrival is to be taken
   reacted_take : (s : State) → Reacted s.signal_count (still s Take)
-  unfolding takes if◌then◌else◌
+  unfolding takes when◌then◌else◌
   reacted_take s = record { small = omega arith; held = omega arith; room = λ r. r; same = λ _. refl; quiet = λ _. (refl, refl) }
 
   -- it is stored
   reacted_stored : (s : State) (x : BufferedSignal) → s.signal_count < 64 → Reacted s.signal_count (still (appended s x) Rest)
-  unfolding takes if◌then◌else◌
+  unfolding takes when◌then◌else◌
   reacted_stored s x h =
       let n : (appended s x).signal_count ≡ s.signal_count + 1 = ap (λ (t : State). t.signal_count) (appended_room s x h) in
       reacted_rest s.signal_count (appended s x) {y = no_ending} (omega arith) (λ _. omega arith)

@@ -1,6 +1,6 @@
 -- The moves of a call, one after the other: the driver counts microsteps against their limit and keeps the lists.
 use Rattle.std.specs.Prelude.{Bool, true, false, List, [], ◌∷◌, ◌++◌, ℕ, ◌+◌, take, ltb, eqb}
-use Rattle.laws.specs.Bool.{if◌then◌else◌}
+use Rattle.laws.specs.Bool.{when◌then◌else◌}
 use Rattle.laws.specs.Settle.{settle}
 use Rattle.workflow.specs.View.{Workflow}
 use Rattle.workflow.specs.Lookup.{node_of}
@@ -39,7 +39,7 @@ operations_of (answer ∷ more) = answer.operations + operations_of more
 
 -- What a move says is listed behind what was said; code 0 says nothing.
 unfoldable pub added : {A : Type 0} → (code : ℕ) → List A → A → List A
-added code listed said = if eqb code 0 then listed else (listed ++ (said ∷ []))
+added code listed said = when eqb code 0 then listed else (listed ++ (said ∷ []))
 
 -- For one sheet, one limit on microsteps, one event and its mapping answers.
 module _ (sheet : Workflow) (limit : ℕ) (event : Event) (mappings : Mappings) where
@@ -70,7 +70,7 @@ module _ (sheet : Workflow) (limit : ℕ) (event : Event) (mappings : Mappings) 
 
   -- A move that is a microstep: it is counted, and the count is tested, before it is made.
   unfoldable pub counting : Machine → Move → Machine
-  counting machine move = if ltb limit (machine.microsteps + 1) then over_limit machine else moved (machine.microsteps + 1) machine move
+  counting machine move = when ltb limit (machine.microsteps + 1) then over_limit machine else moved (machine.microsteps + 1) machine move
 
   -- The oldest stored signal that the node waits for is taken; with none left the run goes on waiting.
   unfoldable pub consume_by : Found → Machine → Machine

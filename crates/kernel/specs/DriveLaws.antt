@@ -7,7 +7,7 @@ use mathlib.Core.List.{List, [], ◌∷◌, ◌++◌}
 use Prim.Native.Nat.{ℕ, zero, suc, ◌+◌, ◌-◌, ◌*◌, ◌≤◌, ◌<◌}
 use native.Mathlib.Omega.{arith}
 use Rattle.std.proofs.Math.ListN.{length, length-append, length-take}
-use Rattle.laws.specs.Bool.{if◌then◌else◌, if_true, if_false, split, either}
+use Rattle.laws.specs.Bool.{when◌then◌else◌, if_true, if_false, split, either}
 use Rattle.laws.specs.Settle.{settle, Settling, settle_rests, settled, settle_next}
 use Rattle.laws.specs.First.{first}
 use Rattle.laws.specs.Listing.{padded, Listing, listing_none, listing_more, listing_splice, take_padded}
@@ -88,8 +88,8 @@ is_over (Refuse k) h = true
 
 unfoldable pub rest_answer : Order → Limits → (microsteps operations : ℕ) → code.Answer
 rest_answer o l k n =
-    if ltb l.commands (orders o) then code.Answer.Refused commands_exceeded none else
-    if ltb l.operations n then code.Answer.Refused operations_exceeded none else
+    when ltb l.commands (orders o) then code.Answer.Refused commands_exceeded none else
+    when ltb l.operations n then code.Answer.Refused operations_exceeded none else
     code.Answer.Next o k
 
 -- The answer where no move follows. Where the store is consumed, the run goes on waiting.
@@ -115,7 +115,7 @@ closing ns es n k s o j =
 
 unfoldable pub decide : List Note → List Ending → (note_count ending_count : ℕ) → State → code.Answer → Decision
 decide ns es n k s (code.Answer.Next o j) =
-    if leaves_over s.status s.signal_count
+    when leaves_over s.status s.signal_count
     then closing ns es n k s o j
     else record { notes = ns; endings = es; note_count = n; ending_count = k; answer = code.Answer.Next o j; state = s }
 decide ns es n k s (code.Answer.Wants t i b) = decision_of (wants t i b s)
@@ -155,17 +155,17 @@ pub record Adding {A : Type 0} (d : A) (array : List A) (n : ℕ) (xs : List A) 
 
 module _ {A : Type 0} {d : A} {array : List A} {n : ℕ} {xs : List A} {c : ℕ} {x : A} (l : Adding d array n xs c x) where
   pub added_room : 0 < c → n < 65
-  unfolding added if◌then◌else◌
+  unfolding added when◌then◌else◌
   added_room h =
       let w : length (xs ++ (x ∷ [])) ≤ 65 = rw (ne_eqb c 0 (λ z. omega arith)) at l.fit in
       omega (arith, length-append xs (x ∷ []), l.are.count)
 
   pub added_one : {to : List A} {i : ℕ} → 0 < c → to ≡ set array n x → i ≡ n + 1 → Listing d 65 to i (added c xs x)
-  unfolding added if◌then◌else◌
+  unfolding added when◌then◌else◌
   added_one h e g = rw (ne_eqb c 0 (λ z. omega arith), e, g) (listing_more d x (added_room h) l.are)
 
   pub added_none : {to : List A} {i : ℕ} → c ≤ 0 → to ≡ array → i ≡ n → Listing d 65 to i (added c xs x)
-  unfolding added if◌then◌else◌
+  unfolding added when◌then◌else◌
   added_none h e g = rw (eq-eqb c 0 (omega arith), e, g) l.are
 
 -- THE CLOSE: what is left over is listed behind the endings.
@@ -229,7 +229,7 @@ module _ (f : Workflow) where
   plain_route s o x = either Plain _ (λ _. record { no_order = refl; unread = refl }) (λ _. plain_limited _ _ o _)
 
   ends_take_by : (y : Found) (s : State) (x : BufferedSignal) (k : Next) → Ends (take_by f y s x k)
-  unfolding take_by takes if◌then◌else◌
+  unfolding take_by takes when◌then◌else◌
   ends_take_by (At t) s x k = let g = plain_route s _ _ in record { takes_one = refl; no_order = g.no_order; unread = g.unread }
   ends_take_by Nothing s x k = record { takes_one = refl; no_order = refl; unread = refl }
 
@@ -397,7 +397,7 @@ module _ (f : Workflow) (l : Limits) (e : Event) (m : Mappings) (v₀ : Round) w
 
     -- A node is entered.
     turn_entered : (a b : ℕ) (o : Order) → Going (machine s (Enter a b) o ns es j q) → Turn (Enter a b) (entered_by (still s (Enter a b)) (enter f s a b m))
-    unfolding entries takes if◌then◌else◌ entering
+    unfolding entries takes when◌then◌else◌ entering
     turn_entered a b o g =
         let d = follows s o ns es j q (Enter a b) (λ z. absurd (omega arith)) within g in
         record {
@@ -409,7 +409,7 @@ module _ (f : Workflow) (l : Limits) (e : Event) (m : Mappings) (v₀ : Round) w
 
     -- The store has no signal that is waited for.
     turn_waits : (o : Order) → first_signal s (node_of f s.position.node).signal ≡ Nothing → Going (machine s Consume o ns es j q) → Turn Consume (entered_by (still s Rest) (still s Rest))
-    unfolding entries takes if◌then◌else◌ advance_by consume_by operations_of
+    unfolding entries takes when◌then◌else◌ advance_by consume_by operations_of
     turn_waits o h g =
         let x = machine s Consume o ns es j q in
         let p : 0 < 131 - j = omega (arith, g.bounds.enough) in
@@ -544,7 +544,7 @@ module _ (f : Workflow) (l : Limits) (e : Event) (m : Mappings) (v₀ : Round) w
 
     -- No move follows.
     resting : (t : State) (o : Order) → k + t.signal_count ≤ 65 → decide notes endings n k t (rest_answer o l j q) ≡ decision_of (finish_by Rest l (machine t Rest o d.ns d.es j q))
-    unfolding decide rest_answer finish_by decision_of closed stored_as if◌then◌else◌
+    unfolding decide rest_answer finish_by decision_of closed stored_as when◌then◌else◌
     resting t o h =
         split (ltb l.commands (orders o)) (λ a. rw a)
         (λ a. split (ltb l.operations q) (λ b. rw (a, b))

@@ -3,10 +3,10 @@ use Rattle.std.specs.Prelude.{◌≡◌, refl, Bool, true, false, not, ◌&&◌,
 use Rattle.std.proofs.Common.{sym, ◌∙◌}
 use Rattle.std.proofs.lemmas.Bool.{false≢true, not-true, not-false}
 
-infix 20 if◌then◌else◌
-unfoldable pub if◌then◌else◌ : {A : Type 0} → Bool → A → A → A
-if◌then◌else◌ true a b = a
-if◌then◌else◌ false a b = b
+infix 20 when◌then◌else◌
+unfoldable pub when◌then◌else◌ : {A : Type 0} → Bool → A → A → A
+when◌then◌else◌ true a b = a
+when◌then◌else◌ false a b = b
 
 infixr 35 ◌and◌
 unfoldable pub ◌and◌ : Bool → Bool → Bool
@@ -76,19 +76,19 @@ unfolding ◌and◌
 stopped {a} {b} e h x = let t : a ≡ false = sym e ∙ not-true b h in rw t
 
 -- A conditional whose test is known.
-pub if_true : {A : Type 0} (b : Bool) (x y : A) → b ≡ true → (if b then x else y) ≡ x
-unfolding if◌then◌else◌
+pub if_true : {A : Type 0} (b : Bool) (x y : A) → b ≡ true → (when b then x else y) ≡ x
+unfolding when◌then◌else◌
 if_true true x y e = refl
 if_true false x y e = absurd (false≢true e)
 
-pub if_false : {A : Type 0} (b : Bool) (x y : A) → b ≡ false → (if b then x else y) ≡ y
-unfolding if◌then◌else◌
+pub if_false : {A : Type 0} (b : Bool) (x y : A) → b ≡ false → (when b then x else y) ≡ y
+unfolding when◌then◌else◌
 if_false true x y e = absurd (false≢true (sym e))
 if_false false x y e = refl
 
 -- What holds of both sides, by the value of the test.
-pub either : {A : Type 0} (P : A → Type 0) (b : Bool) {x y : A} → (b ≡ true → P x) → (b ≡ false → P y) → P (if b then x else y)
-unfolding if◌then◌else◌
+pub either : {A : Type 0} (P : A → Type 0) (b : Bool) {x y : A} → (b ≡ true → P x) → (b ≡ false → P y) → P (when b then x else y)
+unfolding when◌then◌else◌
 either P true f g = f refl
 either P false f g = g refl
 

@@ -4,13 +4,13 @@ use Rattle.std.proofs.Math.Path.{sym, ap}
 use Rattle.std.proofs.Common.{◌∙◌, arith}
 use Rattle.std.proofs.Math.Bool.{true, false}
 use Prim.Native.Nat.{ℕ, zero, suc, ◌+◌, ◌≤◌, ◌<◌}
-use Rattle.laws.specs.Bool.{if◌then◌else◌}
+use Rattle.laws.specs.Bool.{when◌then◌else◌}
 use Rattle.laws.specs.Rows.{span, span_more, span_none}
 
 -- v of the first element that passes p and of its place, counted from i; or e where none does
 unfoldable pub first : {A B : Type 0} → (A → Bool) → (ℕ → A → B) → B → ℕ → List A → B
 first p v e i [] = e
-first p v e i (x ∷ xs) = if p x then v i x else first p v e (i + 1) xs
+first p v e i (x ∷ xs) = when p x then v i x else first p v e (i + 1) xs
 
 -- Some element passes.
 abbrev pub some : {A : Type 0} → (A → Bool) → List A → Bool
@@ -31,13 +31,13 @@ module _ {A B : Type 0} {p : A → Bool} {v : ℕ → A → B} {e : B} {f : ℕ 
 
   -- the element at i, with the value b of its test
   pub seek_hit : {b : Bool} {x : A} → i < k → x ≡ f i → b ≡ p x → b ≡ true → v i x ≡ w
-  unfolding first if◌then◌else◌
+  unfolding first when◌then◌else◌
   seek_hit {b} {x} h s q r =
       let t : p (f i) ≡ true = cc in
       ap (v i) s ∙ sym (rw (span_more f i k h, t)) ∙ inv.left
 
   pub seek_miss : {b : Bool} {x : A} → i < k → x ≡ f i → b ≡ p x → b ≡ false → Seek p v e f k (i + 1) w
-  unfolding first if◌then◌else◌
+  unfolding first when◌then◌else◌
   seek_miss h s q r =
       let t : p (f i) ≡ false = cc in
       record { left = sym (rw (span_more f i k h, t)) ∙ inv.left }

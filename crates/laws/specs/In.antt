@@ -3,7 +3,7 @@ use Rattle.std.specs.Prelude.{◌≡◌, refl, Bool, true, false, ◌⊎◌, ℕ
 use Rattle.std.proofs.Common.{sym, inl, inr, ⊎_elim, arith, eqb-true}
 use Rattle.std.proofs.lemmas.Bool.{false≢true, eqb-false}
 use mathlib.Core.List.{List, [], ◌∷◌}
-use Rattle.laws.specs.Bool.{if◌then◌else◌, split, both, join}
+use Rattle.laws.specs.Bool.{when◌then◌else◌, split, both, join}
 use Rattle.laws.specs.Rows.{span, span_more, span_none}
 use Rattle.laws.specs.First.{first, some}
 use Rattle.laws.specs.Every.{every, below}
@@ -63,7 +63,7 @@ module _ {A B : Type 0} (p : A → Bool) (v : ℕ → A → B) (e : B) where
       at_or_after x (tail i) = f x i
 
   pub hits : (i : ℕ) (xs : List A) → Hit p v e xs (first p v e i xs)
-  unfolding first if◌then◌else◌
+  unfolding first when◌then◌else◌
   hits i [] = miss (λ x i. absurd (nowhere i))
   hits i (x ∷ xs) = split (p x) (λ h. rw h (hit i x head h)) (λ h. rw h (later x xs h (hits (i + 1) xs)))
 

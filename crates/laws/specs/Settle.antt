@@ -5,12 +5,12 @@ use Rattle.std.proofs.Common.{◌∙◌}
 use Rattle.std.proofs.Math.Bool.{true}
 use Prim.Native.Nat.{ℕ, zero, suc, ◌-◌, ◌<◌}
 use native.Mathlib.Omega.{arith}
-use Rattle.laws.specs.Bool.{if◌then◌else◌}
+use Rattle.laws.specs.Bool.{when◌then◌else◌}
 
 -- step by step while go holds, at most k times
 unfoldable pub settle : {A : Type 0} → (A → Bool) → (A → A) → ℕ → A → A
 settle go step zero x = x
-settle go step (suc k) x = if go x then settle go step k (step x) else x
+settle go step (suc k) x = when go x then settle go step k (step x) else x
 
 -- A loop with k steps left: at x, the whole answer w is what is left to settle.
 pub record Settling {A : Type 0} (go : A → Bool) (step : A → A) (w : A) (k : ℕ) (x : A) : Type 0 where
@@ -18,7 +18,7 @@ pub record Settling {A : Type 0} (go : A → Bool) (step : A → A) (w : A) (k :
 
 -- nothing is next
 pub settle_rests : {A : Type 0} (go : A → Bool) (step : A → A) (k : ℕ) (x : A) → go x ≡ false → settle go step k x ≡ x
-unfolding settle if◌then◌else◌
+unfolding settle when◌then◌else◌
 settle_rests go step zero x h = refl
 settle_rests go step (suc k) x h = rw h
 
@@ -34,7 +34,7 @@ module _ {A : Type 0} {go : A → Bool} {step : A → A} {w : A} {k : ℕ} {x : 
 
   -- y is the next state
   pub settle_next : {b : Bool} {y : A} → 0 < k → b ≡ go x → b ≡ true → y ≡ step x → Settling go step w (k - 1) y
-  unfolding settle if◌then◌else◌
+  unfolding settle when◌then◌else◌
   settle_next p e h t =
       let s : k ≡ suc (k - 1) = omega arith in
       let g : go x ≡ true = sym e ∙ h in

@@ -1,6 +1,6 @@
 -- What an event does to a run, as moves: the rest of the step rules of document 01.
 use Rattle.std.specs.Prelude.{Bool, true, false, not, ℕ, ltb, leb, eqb}
-use Rattle.laws.specs.Bool.{if◌then◌else◌, ◌and◌}
+use Rattle.laws.specs.Bool.{when◌then◌else◌, ◌and◌}
 use Rattle.workflow.specs.Code.{none, ok, failed, repeatable}
 use Rattle.workflow.specs.View.{Workflow}
 use Rattle.workflow.specs.Lookup.{is_0_2, node_of, policy_of, routed, declares}
@@ -20,7 +20,7 @@ use Rattle.model.specs.Step.{still, noting, ending, error, phased, arrival, term
 -- SMALL WORDS.
 -- A success without an outcome means ok.
 abbrev pub success_outcome : (outcome : ℕ) → ℕ
-success_outcome outcome = if eqb outcome none then ok else outcome
+success_outcome outcome = when eqb outcome none then ok else outcome
 
 -- There is an invocation, and its node and visit are those named.
 unfoldable pub named : InvocationState → Event → Bool
@@ -28,7 +28,7 @@ named invocation event = not (eqb invocation.phase 0) and eqb invocation.node ev
 
 -- The current node, if it is the one named.
 unfoldable pub named_node : InvocationState → Event → ℕ
-named_node invocation event = if named invocation event then invocation.node else none
+named_node invocation event = when named invocation event then invocation.node else none
 
 -- A result applies only to the current visit and attempt in phase scheduled.
 unfoldable pub applies : InvocationState → Event → Bool
@@ -49,7 +49,7 @@ stick state why =
 unfoldable pub on_ended : State → Event → Move
 on_ended state event =
     let ignored = noting note_ignored none event.kind 0 0 (still state Rest) in
-    if eqb event.kind signal_received then ending event.sequence end_ignored ignored else ignored
+    when eqb event.kind signal_received then ending event.sequence end_ignored ignored else ignored
 
 -- THE RULES, for one sheet.
 module _ (sheet : Workflow) where
@@ -73,56 +73,56 @@ module _ (sheet : Workflow) where
   unfoldable pub fail_invocation : State → (code detail : ℕ) → (may_park : Bool) → Move
   fail_invocation state code detail may_park =
       let why = error code state.position.node detail in
-      if routed sheet state.position.node failed then complete_invocation state failed (Output.Error why) else
-      if may_park and is_0_2 sheet then stick state why else
+      when routed sheet state.position.node failed then complete_invocation state failed (Output.Error why) else
+      when may_park and is_0_2 sheet then stick state why else
       terminate sheet state why
 
   -- THE EVENTS.
   -- An arrival that the run waits for is taken ahead of the store. Otherwise it is stored last; one too many is dropped.
   unfoldable pub on_signal : State → Event → Move
   on_signal state event =
-      if eqb state.status waiting and eqb (node_of sheet state.position.node).signal event.signal then still state Take else
-      if leb store state.signal_count then ending event.sequence end_overflow (noting note_overflow none event.event_id 0 0 (still state Rest)) else
+      when eqb state.status waiting and eqb (node_of sheet state.position.node).signal event.signal then still state Take else
+      when leb store state.signal_count then ending event.sequence end_overflow (noting note_overflow none event.event_id 0 0 (still state Rest)) else
       still (appended state (arrival event)) Rest
 
   unfoldable pub on_success : State → Event → Move
   on_success state event =
       let outcome = success_outcome event.outcome in
-      if declares sheet (action_at state) outcome then complete_invocation state outcome (Output.Handle event.output) else
+      when declares sheet (action_at state) outcome then complete_invocation state outcome (Output.Handle event.output) else
       fail_invocation state undeclared_outcome outcome true
 
   -- After a failure a retry also needs retryable.
   unfoldable pub on_failure : State → Event → Move
   on_failure state event =
-      if event.retryable and may_retry state event then retry sheet state (delay_of (action_at state) event) else
-      if event.has_error then fail_invocation state event.code event.detail true else
+      when event.retryable and may_retry state event then retry sheet state (delay_of (action_at state) event) else
+      when event.has_error then fail_invocation state event.code event.detail true else
       fail_invocation state activity_failed 0 true
 
   -- Unknown or expired on effect 1 parks the run.
   unfoldable pub on_unknown : State → Event → Move
   on_unknown state event =
       let invocation = state.invocation in
-      if not (eqb (policy_of sheet (action_at state)).effect repeatable)
+      when not (eqb (policy_of sheet (action_at state)).effect repeatable)
       then
       noting note_unknown state.position.node invocation.visit invocation.attempt event.status
       (still (placed state needs_intervention state.position (phased invocation unknown invocation.attempt Kept.Nothing)) Rest)
       else
-      if may_retry state event then retry sheet state (delay_of (action_at state) event) else
+      when may_retry state event then retry sheet state (delay_of (action_at state) event) else
       fail_invocation state attempts_exhausted event.status true
 
   unfoldable pub on_result : State → Event → Move
   on_result state event =
-      if not (applies state.invocation event)
+      when not (applies state.invocation event)
       then noting note_stale (named_node state.invocation event) event.node event.visit event.attempt (still state Rest)
       else
-      if eqb event.status success then on_success state event else
-      if eqb event.status failure then on_failure state event else
+      when eqb event.status success then on_success state event else
+      when eqb event.status failure then on_failure state event else
       on_unknown state event
 
   -- Resolved as complete: with an outcome that the action declares.
   unfoldable pub resolve_as_complete : State → Event → Move
   resolve_as_complete state event =
-      if declares sheet (action_at state) event.outcome then complete_invocation state event.outcome (Output.Handle event.output) else
+      when declares sheet (action_at state) event.outcome then complete_invocation state event.outcome (Output.Handle event.output) else
       not_applicable state event undeclared
 
   -- Resolving a stuck run as fail ends it as failed with the kept error, even where failed is routed.
@@ -133,20 +133,20 @@ module _ (sheet : Workflow) where
   -- An operator's retry needs neither, and has delay 0.
   unfoldable pub on_resolved : State → Event → Move
   on_resolved state event =
-      if not (named state.invocation event) then not_applicable state event mismatch else
-      if eqb state.invocation.phase scheduled then not_applicable state event not_unknown else
-      if eqb event.resolution resolve_complete then resolve_as_complete state event else
-      if eqb event.resolution resolve_retry then retry sheet state 0 else
+      when not (named state.invocation event) then not_applicable state event mismatch else
+      when eqb state.invocation.phase scheduled then not_applicable state event not_unknown else
+      when eqb event.resolution resolve_complete then resolve_as_complete state event else
+      when eqb event.resolution resolve_retry then retry sheet state 0 else
       resolve_as_fail state.invocation.error state event
 
   -- One event, on the record that has taken note of it.
   unfoldable pub react : State → Event → Move
   react state event =
-      if is_terminal state.status then on_ended state event else
-      if eqb event.kind run_started then still state (Enter sheet.start none) else
-      if eqb event.kind signal_received then on_signal state event else
-      if eqb event.kind activity_result then on_result state event else
-      if eqb event.kind invocation_resolved then on_resolved state event else
+      when is_terminal state.status then on_ended state event else
+      when eqb event.kind run_started then still state (Enter sheet.start none) else
+      when eqb event.kind signal_received then on_signal state event else
+      when eqb event.kind activity_result then on_result state event else
+      when eqb event.kind invocation_resolved then on_resolved state event else
       still state Rest
 
   -- Sequence is set, accepted time becomes the larger of old and new; then the event is reacted to.

@@ -6,7 +6,7 @@ use Rattle.std.proofs.lemmas.Bool.{false≢true}
 use borrow.Author.Tests.{le-leb, lt-leb}
 use types.Run.{OneOf, miss}
 use Rattle.laws.specs.Arrays.{past_getD}
-use Rattle.laws.specs.Bool.{if◌then◌else◌, if_true, if_false}
+use Rattle.laws.specs.Bool.{when◌then◌else◌, if_true, if_false}
 use Rattle.workflow.specs.Code.{none}
 use Rattle.workflow.specs.Layout.{node_room}
 use Rattle.workflow.specs.View.{Workflow}
@@ -38,7 +38,7 @@ value_of Evaluated.Lacking = Nothing
 
 -- WHAT AN ENTRY MAKES OF A RECORD. Where the run stands, and its result.
 abbrev pub placing : Entry → State → State
-placing e s = if e.placed then placed s e.status e.position e.invocation else s
+placing e s = when e.placed then placed s e.status e.position e.invocation else s
 
 abbrev with_output : State → Output → State
 with_output s x =
@@ -59,7 +59,7 @@ with_output s x =
     }
 
 abbrev pub resulting : Entry → State → State
-resulting e s = if e.ended then with_output s e.output else s
+resulting e s = when e.ended then with_output s e.output else s
 
 -- The move, of a record that has counted the entry if it counts.
 unfoldable pub made : State → Entry → Move
@@ -75,7 +75,7 @@ made s e =
 
 -- The record that has.
 unfoldable pub counted : State → (node : ℕ) → Entry → State
-counted s n e = if e.entered then one_more_visit s n else s
+counted s n e = when e.entered then one_more_visit s n else s
 
 -- The record shows the numbers that an entry is worked out from: the visits of its node and the last accepted time.
 pub record Shows (s : State) (node visits last : ℕ) : Type 0 where
@@ -189,21 +189,21 @@ shows_one_more {s} {n} {v} h k =
 -- The tests of an entry, where there are k nodes, and what it comes to past them.
 module _ (f : Workflow) (s : State) (n b : ℕ) (m : Mappings) (e : Entry) {k v a t : ℕ} (room : k ≡ node_slots f) (given : Uncounted s n v a t) where
   pub strays : k ≤ n → e.entered ≡ false → made s e ≡ still s (Refuse invariant) → made (counted s n e) e ≡ enter f s n b m
-  unfolding enter if◌then◌else◌
+  unfolding enter when◌then◌else◌
   strays h p g = passes s n e p (g ∙ sym (simp (← room, le-leb _ _ h)))
 
   module _ (known : n < k) where
     pub exceeds_visits : f.max_visits_per_node ≤ v → e.entered ≡ false → made s e ≡ reading 0 (terminate f s (error visits_exceeded n 0)) → made (counted s n e) e ≡ enter f s n b m
-    unfolding enter if◌then◌else◌ terminate
+    unfolding enter when◌then◌else◌ terminate
     exceeds_visits h p g = passes s n e p (g ∙ sym (simp (← room, lt-leb _ _ known, given.shows.visits_are, le-leb _ _ h)))
 
     module _ (visits : v < f.max_visits_per_node) where
       pub exceeds_activations : f.max_activations ≤ a → e.entered ≡ false → made s e ≡ reading 0 (terminate f s (error activations_exceeded n 0)) → made (counted s n e) e ≡ enter f s n b m
-      unfolding enter if◌then◌else◌ terminate
+      unfolding enter when◌then◌else◌ terminate
       exceeds_activations h p g = passes s n e p (g ∙ sym (simp (← room, lt-leb _ _ known, given.shows.visits_are, lt-leb _ _ visits, given.activations_are, le-leb _ _ h)))
 
       pub arrives : {i : ℕ} → a < f.max_activations → i ≡ v + 1 → e.entered ≡ true → ((z : State) → Shows z n i t → made z e ≡ arrive f z n b m) → made (counted s n e) e ≡ enter f s n b m
-      unfolding enter if◌then◌else◌
+      unfolding enter when◌then◌else◌
       arrives h j p g =
           counts s n e p
           (g (one_more_visit s n) (rw j (shows_one_more (omega (arith, room)) given)) ∙

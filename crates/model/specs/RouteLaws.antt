@@ -8,7 +8,7 @@ use Prim.Native.Nat.{ℕ, ◌+◌, ◌-◌, ◌≤◌, ◌<◌, min}
 use native.Mathlib.Omega.{arith}
 use borrow.Author.Tests.{ltb-true, ltb-false, lt-ltb, le-ltb, lt-leb, le-leb}
 use Rattle.std.proofs.Math.Dec.{leb}
-use Rattle.laws.specs.Bool.{if◌then◌else◌, if_true, split}
+use Rattle.laws.specs.Bool.{when◌then◌else◌, if_true, split}
 use Rattle.laws.specs.First.{first}
 use Rattle.laws.specs.Rows.{span, take_span}
 use Rattle.laws.specs.Shift.{without, Shift, shift_done}
@@ -48,7 +48,7 @@ goes_on o k = record { streak = k; outcome = o; note = no_note }
 
 unfoldable pub routing_of : Found → Streak → (node outcome : ℕ) → Routing
 routing_of Nothing k n o = goes_on o no_streak
-routing_of (At x) k n o = if leb x (streak_count k o) then exhausts n o x else goes_on o (record { outcome = o; count = streak_count k o + 1 })
+routing_of (At x) k n o = when leb x (streak_count k o) then exhausts n o x else goes_on o (record { outcome = o; count = streak_count k o + 1 })
 
 -- Where a route leads.
 unfoldable pub next_of : Found → (node : ℕ) → Next
@@ -66,8 +66,8 @@ module _ (f : Workflow) (s : State) (n : ℕ) where
   follow_on Nothing = refl
 
 module _ (f : Workflow) (s : State) (n o : ℕ) where
-  either_way : (b : Bool) (x : ℕ) (k : Streak) → (if b then noting note_exhausted n o x 0 (follow_to f (with_streak s n no_streak) n (route_of f n exhausted)) else follow_to f (with_streak s n k) n (route_of f n o)) ≡ along f s n (if b then exhausts n o x else goes_on o k)
-  unfolding if◌then◌else◌
+  either_way : (b : Bool) (x : ℕ) (k : Streak) → (when b then noting note_exhausted n o x 0 (follow_to f (with_streak s n no_streak) n (route_of f n exhausted)) else follow_to f (with_streak s n k) n (route_of f n o)) ≡ along f s n (when b then exhausts n o x else goes_on o k)
+  unfolding when◌then◌else◌
   either_way true x k = rw (follow_on f (with_streak s n no_streak) n (route_of f n exhausted))
   either_way false x k = follow_on f (with_streak s n k) n (route_of f n o)
 
@@ -78,7 +78,7 @@ module _ (f : Workflow) (s : State) (n o : ℕ) where
 
 -- WHAT IS STORED AND SAID, as the code works it out before it stores it: what it makes of a record.
 abbrev pub stored_by : State → (node : ℕ) → Routed → State
-stored_by s n r = if r.stored then with_streak (with_result s n r.result) n r.streak else s
+stored_by s n r = when r.stored then with_streak (with_result s n r.result) n r.streak else s
 
 abbrev pub made : State → Routed → Move
 made s r = record { state = stored_by s s.position.node r; next = r.next; note = r.note; ending = r.ending; order = Order.Nothing; read = 0 }
@@ -98,25 +98,25 @@ ends e m = ending e.sequence e.ending m
 -- Nothing is stored: the record stays.
 pub unstored_makes : (p : Position) (k : Streak) (n : Next) (t : Note) (e : Ending) (m : State → Move) {r : Routed} → r ≡ unstored n t e
     → ((s : State) → s.position ≡ p → record { state = s; next = n; note = t; ending = e; order = Order.Nothing; read = 0 } ≡ m s) → Makes p k r m
-unfolding unstored if◌then◌else◌
+unfolding unstored when◌then◌else◌
 unstored_makes p k n t e m h g = record { inside = λ z. let y : false ≡ true = rw h at z in absurd (false≢true y); of_record = λ s a b. rw h (g s a) }
 
 -- A node that is there routes: what the code works out one by one is the move.
 module _ (f : Workflow) (p : Position) (k : Streak) (o : ℕ) (x : Output) (e : Ending) where
   pub routes : {m : ℕ} {l t : Found} {y : Routing} {n : Next} → m ≡ node_slots f → p.node < m → l ≡ limit_of f p.node o → y ≡ routing_of l k p.node o → t ≡ route_of f p.node y.outcome → n ≡ next_of t p.node
       → Makes p k (record { stored = true; result = record { visit = p.visit; outcome = o; output = x }; streak = y.streak; next = n; note = y.note; ending = e }) (λ s. ends e (route f s o x))
-  unfolding route if◌then◌else◌
+  unfolding route when◌then◌else◌
   routes em lt el ey et en =
       let past : leb (node_slots f) p.node ≡ false = lt-leb (node_slots f) p.node (omega arith) in
       record { inside = λ _. omega arith; of_record = λ s a b. rw a (simp (past, route_along, b, en, et, ey, el)) }
 
   pub strays : {m : ℕ} {r : Routed} → m ≡ node_slots f → m ≤ p.node → r ≡ unstored (Refuse invariant) no_note e → Makes p k r (λ s. ends e (route f s o x))
-  unfolding route if◌then◌else◌
+  unfolding route when◌then◌else◌
   strays em le h = unstored_makes p k _ _ _ _ h (λ s a. rw a (simp (← em, le-leb _ _ le)))
 
 -- Routing says no ending.
 pub unended : (f : Workflow) (s : State) (o : ℕ) (x : Output) → ends no_ending (route f s o x) ≡ route f s o x
-unfolding route if◌then◌else◌
+unfolding route when◌then◌else◌
 unended f s o x =
     split (leb (node_slots f) s.position.node) (λ h. rw h)
     (λ h. rw (h, route_along f (with_result s s.position.node (record { visit = s.position.visit; outcome = o; output = x })) s.position.node o (limit_of f s.position.node o)))
@@ -151,34 +151,34 @@ is_consume (Refuse n) = false
 
 unfoldable pub taken_by : Workflow → Next → (found : Bool) → State → BufferedSignal → Move
 taken_by f n b s x =
-    if is_take n then take f s x Rest else
-    if is_consume n then (if b then take f s x Consume else still s Rest) else
+    when is_take n then take f s x Rest else
+    when is_consume n then (when b then take f s x Consume else still s Rest) else
     still s n
 
 -- What is taken by what comes next.
 module _ (f : Workflow) (p : Position) (k : Streak) (n : Next) (b : Bool) (x : BufferedSignal) {r : Routed} where
   pub takes_arrival : is_take n ≡ true → Makes p k r (λ s. take f s x Rest) → Makes p k r (λ s. taken_by f n b s x)
-  unfolding taken_by if◌then◌else◌
+  unfolding taken_by when◌then◌else◌
   takes_arrival h m = record { inside = m.inside; of_record = λ s c d. m.of_record s c d ∙ sym (rw h) }
 
   pub takes_stored : is_take n ≡ false → is_consume n ≡ true → b ≡ true → Makes p k r (λ s. take f s x Consume) → Makes p k r (λ s. taken_by f n b s x)
-  unfolding taken_by if◌then◌else◌
+  unfolding taken_by when◌then◌else◌
   takes_stored h g e m = record { inside = m.inside; of_record = λ s c d. m.of_record s c d ∙ sym (rw (h, g, e)) }
 
   pub takes_none : is_take n ≡ false → is_consume n ≡ true → b ≡ false → r ≡ unstored Rest no_note no_ending → Makes p k r (λ s. taken_by f n b s x)
-  unfolding taken_by if◌then◌else◌
+  unfolding taken_by when◌then◌else◌
   takes_none h g e m = unstored_makes p k _ _ _ _ m (λ s a. sym (rw (h, g, e)))
 
   pub passes_on : is_take n ≡ false → is_consume n ≡ false → r ≡ unstored n no_note no_ending → Makes p k r (λ s. taken_by f n b s x)
-  unfolding taken_by if◌then◌else◌
+  unfolding taken_by when◌then◌else◌
   passes_on h g m = unstored_makes p k _ _ _ _ m (λ s a. sym (rw (h, g)))
 
 -- How many stored signals are looked at.
 unfoldable pub looked_at : Next → (count : ℕ) → ℕ
-looked_at n k = if is_consume n then min store k else 0
+looked_at n k = when is_consume n then min store k else 0
 
 pub looked_at_room : (n : Next) (k : ℕ) → looked_at n k ≤ min 64 k
-unfolding looked_at if◌then◌else◌
+unfolding looked_at when◌then◌else◌
 looked_at_room n k = split (is_consume n) (λ h. rw h (omega arith)) (λ h. rw h (omega arith))
 
 -- THE MOVE THAT TAKES A SIGNAL, by what comes next. The store gives its oldest signal of the name that the node waits for; with none the run goes on waiting.
@@ -207,7 +207,7 @@ module _ (f : Workflow) (s : State) (x : BufferedSignal) (l : length s.signals �
   name = (node_of f s.position.node).signal
 
   pub takes_found : (n : Next) {k i : ℕ} → k ≡ looked_at n s.signal_count → i < k → sought s name k ≡ At i → taken_by f n true (removed s i) (signal_at s i) ≡ taking f s n x
-  unfolding taken_by taking looked_at is_take is_consume consumed if◌then◌else◌
+  unfolding taken_by taking looked_at is_take is_consume consumed when◌then◌else◌
   takes_found Rest e h g = absurd (omega arith)
   takes_found (Enter n c) e h g = absurd (omega arith)
   takes_found Take e h g = absurd (omega arith)
@@ -218,7 +218,7 @@ module _ (f : Workflow) (s : State) (x : BufferedSignal) (l : length s.signals �
   takes_found (Refuse n) e h g = absurd (omega arith)
 
   pub takes_no_other : (n : Next) {k : ℕ} → k ≡ looked_at n s.signal_count → sought s name k ≡ Nothing → taken_by f n false s x ≡ taking f s n x
-  unfolding taken_by taking looked_at is_take is_consume consumed if◌then◌else◌
+  unfolding taken_by taking looked_at is_take is_consume consumed when◌then◌else◌
   takes_no_other Rest e g = refl
   takes_no_other (Enter n c) e g = refl
   takes_no_other Take e g = refl
@@ -287,7 +287,7 @@ not_above a n e h = ltb-false a n (sym e ∙ h)
 
 -- WHAT THE NEXT ATTEMPT MAKES of a record.
 abbrev pub ordered_by : State → Attempt → State
-ordered_by s r = if r.ordered then placed s running s.position r.invocation else s
+ordered_by s r = when r.ordered then placed s running s.position r.invocation else s
 
 abbrev pub tried : State → Attempt → Move
 tried s r = record { state = ordered_by s r; next = r.next; note = r.note; ending = no_ending; order = r.order; read = 0 }
@@ -302,11 +302,11 @@ no_attempt = record { ordered = false; invocation = no_invocation; next = Refuse
 -- A retry is refused: its time, which is late where b, is past the largest; or there is no number for the attempt.
 module _ (f : Workflow) (p : Position) (v : InvocationState) (last delay : ℕ) {b : Bool} (late : b ≡ ltb largest (planned f last delay)) {r : Attempt} where
   pub too_late : b ≡ true → r ≡ no_attempt → Tries p v last r (λ s. retry f s delay)
-  unfolding retry if◌then◌else◌
+  unfolding retry when◌then◌else◌
   too_late h e = record { of_record = λ s x y z. rw e (simp (z, ← late, h)) }
 
   pub too_often : b ≡ false → largest_attempt ≤ v.attempt → r ≡ no_attempt → Tries p v last r (λ s. retry f s delay)
-  unfolding retry if◌then◌else◌
+  unfolding retry when◌then◌else◌
   too_often h g e = record { of_record = λ s x y z. rw e (simp (y, z, ← late, h, last_attempt _ g)) }
 
   pub tries : b ≡ false → v.attempt < largest_attempt
@@ -318,5 +318,5 @@ module _ (f : Workflow) (p : Position) (v : InvocationState) (last delay : ℕ) 
         order = Order.Retry (record { not_before = planned f last delay; node = v.node; visit = v.visit; attempt = v.attempt + 1 });
       }
       → Tries p v last r (λ s. retry f s delay)
-  unfolding retry if◌then◌else◌
+  unfolding retry when◌then◌else◌
   tries h g e = record { of_record = λ s x y z. rw e (simp (x, y, z, ← late, h, more_attempts _ g)) }

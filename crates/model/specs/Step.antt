@@ -1,6 +1,6 @@
 -- The step rules of document 01, as moves: each takes the run record and hands the next one back, with at most one note, one ending and one order.
 use Rattle.std.specs.Prelude.{ℕ, ◌+◌, get_or, ltb, leb, eqb}
-use Rattle.laws.specs.Bool.{if◌then◌else◌, ◌and◌}
+use Rattle.laws.specs.Bool.{when◌then◌else◌, ◌and◌}
 use Rattle.workflow.specs.Code.{none, received, exhausted, activity, await_signal, complete}
 use Rattle.model.specs.Code.{largest, largest_attempt, running, waiting, run_completed, run_failed, scheduled, value, fault, field_input, field_params, field_output, visits_exceeded, activations_exceeded, note_unrouted, note_retry, note_exhausted, invariant, no_retry, unencodable, end_routed, end_unrouted}
 use Rattle.workflow.specs.declared.Found.{Found}
@@ -81,11 +81,11 @@ planned sheet last_accepted_at delay = last_accepted_at + delay
 
 -- A signal's absent outcome means received.
 abbrev pub signal_outcome : (outcome : ℕ) → ℕ
-signal_outcome outcome = if eqb outcome none then received else outcome
+signal_outcome outcome = when eqb outcome none then received else outcome
 
 -- How often in a row the node routed the outcome: no streak, or one of another outcome, counts 0.
 abbrev pub streak_count : Streak → (outcome : ℕ) → ℕ
-streak_count streak outcome = if eqb streak.outcome outcome then streak.count else 0
+streak_count streak outcome = when eqb streak.outcome outcome then streak.count else 0
 
 -- One more visit of a node, and one more activation.
 abbrev pub one_more_visit : State → (node : ℕ) → State
@@ -94,8 +94,8 @@ one_more_visit state node = with_visits state node ((visits_of state node).count
 -- A mapping answer by its kind.
 abbrev pub evaluated_as : Mapping → Evaluated
 evaluated_as mapping =
-    if eqb mapping.kind value then Evaluated.Value mapping.value else
-    if eqb mapping.kind fault then Evaluated.Fault mapping.code mapping.detail else
+    when eqb mapping.kind value then Evaluated.Value mapping.value else
+    when eqb mapping.kind fault then Evaluated.Fault mapping.code mapping.detail else
     Evaluated.Unencodable
 
 abbrev pub no_mapping : Mapping
@@ -103,7 +103,7 @@ no_mapping = record { kind = 0; value = 0; code = 0; detail = 0; operations = 0 
 
 -- The mapping answer of a call at an index; past the count it is lacking.
 unfoldable pub answer : Mappings → ℕ → Evaluated
-answer mappings index = if ltb index mappings.count then evaluated_as (get_or mappings.answers index no_mapping) else Evaluated.Lacking
+answer mappings index = when ltb index mappings.count then evaluated_as (get_or mappings.answers index no_mapping) else Evaluated.Lacking
 
 -- The invocation in another phase (the original's `InvocationState.state`), with the error that it keeps.
 abbrev pub phased : InvocationState → (phase attempt : ℕ) → Kept → InvocationState
@@ -175,7 +175,7 @@ module _ (sheet : Workflow) where
   unfoldable pub enter_activity : State → (node from : ℕ) → Mappings → Move
   enter_activity state node from mappings =
       evaluate (answer mappings 0) state node field_input from 1 (λ input.
-      if eqb (node_of sheet node).has_params 1
+      when eqb (node_of sheet node).has_params 1
       then evaluate (answer mappings 1) state node field_params from 2 (λ params. reading 2 (schedule state node input (Params.Handle params)))
       else reading 1 (schedule state node input Params.Nothing))
 
@@ -192,9 +192,9 @@ module _ (sheet : Workflow) where
   -- The node that was entered, by its kind.
   unfoldable pub arrive : State → (node from : ℕ) → Mappings → Move
   arrive state node from mappings =
-      if eqb (node_of sheet node).kind activity then enter_activity state node from mappings else
-      if eqb (node_of sheet node).kind await_signal then enter_await state node else
-      if eqb (node_of sheet node).kind complete then enter_complete state node from mappings else
+      when eqb (node_of sheet node).kind activity then enter_activity state node from mappings else
+      when eqb (node_of sheet node).kind await_signal then enter_await state node else
+      when eqb (node_of sheet node).kind complete then enter_complete state node from mappings else
       terminate state (error (node_of sheet node).code node (node_of sheet node).detail)
 
   -- The original fails where a run comes to or stands at no node of the sheet. On an accepted sheet it never does: 0 is never answered.
@@ -204,9 +204,9 @@ module _ (sheet : Workflow) where
   -- Entering tests visits, then activations, then adds one to both.
   unfoldable pub enter : State → (node from : ℕ) → Mappings → Move
   enter state node from mappings =
-      if leb (node_slots sheet) node then astray state else
-      if leb sheet.max_visits_per_node (visits_of state node).count then terminate state (error visits_exceeded node 0) else
-      if leb sheet.max_activations state.activations then terminate state (error activations_exceeded node 0) else
+      when leb (node_slots sheet) node then astray state else
+      when leb sheet.max_visits_per_node (visits_of state node).count then terminate state (error visits_exceeded node 0) else
+      when leb sheet.max_activations state.activations then terminate state (error activations_exceeded node 0) else
       arrive (one_more_visit state node) node from mappings
 
   -- The outcome's route is followed. An accepted sheet routes what comes here.
@@ -221,7 +221,7 @@ module _ (sheet : Workflow) where
   unfoldable pub route_limited : State → (node outcome : ℕ) → Found → Move
   route_limited state node outcome Nothing = follow (with_streak state node no_streak) node outcome
   route_limited state node outcome (At limit) =
-      if leb limit (streak_count (streak_of state node) outcome)
+      when leb limit (streak_count (streak_of state node) outcome)
       then noting note_exhausted node outcome limit 0 (follow (with_streak state node no_streak) node exhausted)
       else follow (with_streak state node (record { outcome = outcome; count = streak_count (streak_of state node) outcome + 1 })) node outcome
 
@@ -229,12 +229,12 @@ module _ (sheet : Workflow) where
   unfoldable pub route : State → (outcome : ℕ) → Output → Move
   route state outcome output =
       let node = state.position.node in
-      if leb (node_slots sheet) node then astray state else
+      when leb (node_slots sheet) node then astray state else
       route_limited (with_result state node (record { visit = state.position.visit; outcome = outcome; output = output })) node outcome (limit_of sheet node outcome)
 
   -- The route of a signal's outcome: none for exhausted in format 2.
   abbrev pub signal_route : (node outcome : ℕ) → Found
-  signal_route node outcome = if is_0_2 sheet and eqb outcome exhausted then Nothing else route_of sheet node outcome
+  signal_route node outcome = when is_0_2 sheet and eqb outcome exhausted then Nothing else route_of sheet node outcome
 
   -- A signal is taken where the run waits: it routes and ends there; without a routed outcome it ends there too, the run goes on waiting, and what comes after is missed.
   unfoldable pub take_by : Found → State → BufferedSignal → (missed : Next) → Move
@@ -251,8 +251,8 @@ module _ (sheet : Workflow) where
   unfoldable pub retry : State → (delay : ℕ) → Move
   retry state delay =
       let invocation = state.invocation in
-      if ltb largest (planned sheet state.last_accepted_at delay) then still state (Refuse no_retry) else
-      if ltb largest_attempt (invocation.attempt + 1) then still state (Refuse no_retry) else
+      when ltb largest (planned sheet state.last_accepted_at delay) then still state (Refuse no_retry) else
+      when ltb largest_attempt (invocation.attempt + 1) then still state (Refuse no_retry) else
       noting note_retry state.position.node (invocation.attempt + 1) 0 0
       (ordering
       (Order.Retry

@@ -1,6 +1,6 @@
 -- The stored signals: the first `signal_count` of the array, oldest first. Only this file and its laws (StoreLaws) know where they sit.
 use Rattle.std.specs.Prelude.{List, map, Bool, ℕ, ◌+◌, ◌-◌, min, get_or, set, take, drop, replicate, ltb, leb, eqb}
-use Rattle.laws.specs.Bool.{if◌then◌else◌, ◌and◌}
+use Rattle.laws.specs.Bool.{when◌then◌else◌, ◌and◌}
 use Rattle.laws.specs.First.{first}
 use Rattle.laws.specs.Every.{every}
 use Rattle.laws.specs.Shift.{without}
@@ -29,14 +29,14 @@ signal_at state place = get_or (stored state) place no_signal
 -- The signal stored at a place goes, and the later ones move down.
 unfoldable pub removed : State → (place : ℕ) → State
 removed state place =
-    if ltb place (min store state.signal_count)
+    when ltb place (min store state.signal_count)
     then set_signals state (without no_signal state.signals place) (state.signal_count - 1)
     else state
 
 -- The signal is stored behind the others; a full store stays as it is.
 unfoldable pub appended : State → BufferedSignal → State
 appended state signal =
-    if ltb state.signal_count store
+    when ltb state.signal_count store
     then set_signals state (set state.signals state.signal_count signal) (state.signal_count + 1)
     else state
 

@@ -11,7 +11,7 @@ use Rattle.std.proofs.Math.Numerals.{add-one}
 use Rattle.std.proofs.lemmas.List.{length-map}
 use Rattle.std.proofs.Math.Seq.{take-suc}
 use Rattle.std.proofs.Math.Dec.{leb-suc-zero, leb-suc-suc}
-use Rattle.laws.specs.Bool.{if◌then◌else◌, ◌and◌, if_true, and_true, and_left, both, join, split}
+use Rattle.laws.specs.Bool.{when◌then◌else◌, ◌and◌, if_true, and_true, and_left, both, join, split}
 use Rattle.laws.specs.First.{first, Seek}
 use Rattle.laws.specs.Rows.{rows, span}
 use Rattle.laws.specs.Every.{every, below, every_then, every_append, every_remove}
@@ -59,7 +59,7 @@ signal_past s i l h = past_taken no_signal s.signals i s.signal_count (omega ari
 
 -- One that is found has a place in the store.
 first_below : {A : Type 0} (p : A → Bool) (j : ℕ) (xs : List A) (i : ℕ) → first p (λ k _. At k) Nothing j xs ≡ At i → i < j + length xs
-unfolding first if◌then◌else◌
+unfolding first when◌then◌else◌
 first_below p j [] i h = let z : ◌≡◌ {A = ℕ} 0 1 = cc in absurd (omega arith)
 first_below p j (x ∷ xs) i h =
     split (p x) (λ t. let y : At j ≡ At i = rw t at h in let z : j ≡ i = cc in omega arith)
@@ -186,12 +186,12 @@ fits_few s e = (parts s.signals s.signal_count e).room
 
 -- THE RUN CHECK'S PART, one place at a time: a stored signal, or an unused slot.
 unfoldable pub signal_fits : (count place : ℕ) → BufferedSignal → Bool
-signal_fits k n x = if ltb n k then in_sequence x else signal_zero x
+signal_fits k n x = when ltb n k then in_sequence x else signal_zero x
 
 module _ {A : Type 0} (p q : A → Bool) (d : A) where
   -- those before k pass p, the others q
   abbrev at : List A → (k : ℕ) → ℕ → Bool
-  at xs k = λ n. if ltb n k then p (get_or xs n d) else q (get_or xs n d)
+  at xs k = λ n. when ltb n k then p (get_or xs n d) else q (get_or xs n d)
 
   shifted : (r : ℕ → Bool) (i k : ℕ) → every r (rows (λ n. n) (suc i) k) ≡ every (λ n. r (suc n)) (rows (λ n. n) i k)
   unfolding every rows
@@ -202,7 +202,7 @@ module _ {A : Type 0} (p q : A → Bool) (d : A) where
   tail x xs j k i h = sym (shifted (at (x ∷ xs) k) 0 i ∙ simp h)
 
   parted : (xs : List A) (k : ℕ) → every p (take k xs) and every q (drop k xs) ≡ every (at xs k) (rows (λ n. n) 0 (length xs))
-  unfolding every rows ◌and◌ if◌then◌else◌
+  unfolding every rows ◌and◌ when◌then◌else◌
   parted [] zero = refl
   parted [] (suc k) = refl
   parted (x ∷ xs) zero = ap (λ b. q x and b) (parted xs zero ∙ tail x xs 0 0 (length xs) (λ n. leb-suc-zero (suc n) ∙ sym (leb-suc-zero n)))

@@ -3,7 +3,7 @@ use Rattle.std.specs.Prelude.{◌≡◌, refl, true, false, not, ℕ, length, eq
 use Rattle.std.proofs.Math.Path.{sym}
 use Rattle.std.proofs.Common.{◌∙◌, ap, subst, eqb-true}
 use mathlib.Core.List.{List, [], ◌∷◌}
-use Rattle.laws.specs.Bool.{if◌then◌else◌, ◌and◌, split}
+use Rattle.laws.specs.Bool.{when◌then◌else◌, ◌and◌, split}
 use Rattle.laws.specs.All.{All, all_map}
 use Rattle.workflow.specs.View.{workflow}
 use Rattle.kernel.specs.Call.{Answer, next, wants, refused, Last, no_record, last, given_record, transition}
@@ -41,10 +41,10 @@ takes (numbers ns) made h t = rw (h.0, h.1, t)
 
 -- After an answer a, in a buffer b, stands its record or what stood before.
 abbrev after : (b : List ℕ) → Standing → Standing
-after b k = if eqb (at (answer_in b) answer_kind) 1 then numbers (record_in b) else k
+after b k = when eqb (at (answer_in b) answer_kind) 1 then numbers (record_in b) else k
 
 stands_after : (a : Answer) (b : List ℕ) (k : Standing) → at (answer_in b) answer_kind ≡ kind_of a → RecordBack a (record_in b) → Fine k → (standing_after a (read k) ≡ read (after b k)) × (Fine (after b k))
-unfolding if◌then◌else◌
+unfolding when◌then◌else◌
 stands_after (next a) b k e t h = rw e (ap last (sym t.same), t.fits)
 stands_after (wants n i f s) b k e t h = rw e (refl, h)
 stands_after (refused r i) b k e t h = rw e (refl, h)
@@ -52,7 +52,7 @@ stands_after (refused r i) b k e t h = rw e (refl, h)
 -- A call isn't turned away for its record; and where what it lends has the layout's lengths, only for its own numbers.
 record Taken (made : Made) : Type 0 where
   pub not_3 : made.returned ≡ bad_record → ⊥
-  pub by_call : RightLengths made → made.returned ≡ (if call_fits made.call then written else bad_call)
+  pub by_call : RightLengths made → made.returned ≡ (when call_fits made.call then written else bad_call)
 
 module _ (sheet : List ℕ) (small : All Number sheet) where
   record Reads (h : List Made) : Type 0 where
@@ -75,7 +75,7 @@ module _ (sheet : List ℕ) (small : All Number sheet) where
 
     -- without an answer
     reads_on : is_answered made ≡ false → Reads (made ∷ before)
-    unfolding standing entries calls ◌and◌ if◌then◌else◌
+    unfolding standing entries calls ◌and◌ when◌then◌else◌
     reads_on e = record { stands = rw e so_far.stands; fine = rw e so_far.fine; same = rw e so_far.same; taken_back = taken }
 
     -- with one
@@ -99,7 +99,7 @@ module _ (sheet : List ℕ) (small : All Number sheet) where
       entry_is = rw (its_told.said, given_is)
 
       reads_more : Reads (made ∷ before)
-      unfolding standing standing_record entries calls ◌and◌ if◌then◌else◌
+      unfolding standing standing_record entries calls ◌and◌ when◌then◌else◌
       reads_more =
           record {
             stands = rw (e, its_told.said, so_far.stands) left.0;
@@ -133,5 +133,5 @@ module _ (sheet : List ℕ) (small : All Number sheet) where
   never_3 h ran = all_map Taken (λ (made : Made). made.returned ≡ bad_record → ⊥) h (λ made t. t.not_3) (reads h ran).taken_back
 
   -- With the layout's lengths a call returns 0, or 2 where a number of its own doesn't fit.
-  pub never_turned : (h : List Made) → Ran sheet h → All (λ (made : Made). RightLengths made → made.returned ≡ (if call_fits made.call then written else bad_call)) h
+  pub never_turned : (h : List Made) → Ran sheet h → All (λ (made : Made). RightLengths made → made.returned ≡ (when call_fits made.call then written else bad_call)) h
   never_turned h ran = all_map Taken _ h (λ made t. t.by_call) (reads h ran).taken_back

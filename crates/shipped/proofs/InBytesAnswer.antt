@@ -6,7 +6,7 @@ use mathlib.Core.List.{List, [], ◌++◌, append_assoc, append-nil}
 use Rattle.std.proofs.Math.ListN.{length, get_or, take, drop, length-drop, get_or-append}
 use Rattle.std.proofs.Math.Seq.{take_all, length-take-le}
 use borrow.Author.Tests.{eq-eqb, eqb-true}
-use Rattle.laws.specs.Bool.{if◌then◌else◌, ◌and◌, both, join}
+use Rattle.laws.specs.Bool.{when◌then◌else◌, ◌and◌, both, join}
 use Rattle.laws.specs.Every.{every_append}
 use Rattle.host.specs.Layout as layout
 use Rattle.codec.specs.Read.{got, onward}
@@ -84,7 +84,7 @@ module _ (ns : List ℕ) (long : length ns ≡ layout.answer_length) (tidy : (an
     of_run : run.tidy (take run.width behind_all) ≡ true
 
   all_tidy : ((numbers (2 ^ 64) 13).tidy head and ((column (2 ^ 64) 325 noted).tidy notes and ((column (2 ^ 64) 130 ended).tidy endings and (run.tidy (take run.width behind_all) and (numbers 0 0).tidy (drop run.width behind_all))))) ≡ true
-  unfolding answer next staged beside numbers column if◌then◌else◌
+  unfolding answer next staged beside numbers column when◌then◌else◌
   all_tidy = tidy
 
   tidy_parts : TidyParts
@@ -96,7 +96,7 @@ module _ (ns : List ℕ) (long : length ns ≡ layout.answer_length) (tidy : (an
       record { of_head = a.0; of_notes = b.0; of_endings = c.0; of_run = d.0 }
 
   all_fields : (answer 1).fields ns ≡ head ++ (take noted notes ++ (take ended endings ++ (run.fields (take run.width behind_all) ++ drop run.width behind_all)))
-  unfolding answer next staged beside numbers column if◌then◌else◌
+  unfolding answer next staged beside numbers column when◌then◌else◌
   all_fields = refl
 
   all_behind : behind_all ≡ drop 468 ns
@@ -169,7 +169,7 @@ module _ (ns : List ℕ) (p : Parts ns) where
 -- OF A WANT: four numbers and the run, and there are few.
 module _ (ns : List ℕ) (long : length ns ≡ layout.answer_length) where
   want_fields : (answer 2).fields ns ≡ take 4 ns ++ (take 0 (take 464 (drop 4 ns)) ++ (run.fields (take run.width (drop 464 (drop 4 ns))) ++ drop run.width (drop 464 (drop 4 ns))))
-  unfolding answer want staged beside numbers column if◌then◌else◌
+  unfolding answer want staged beside numbers column when◌then◌else◌
   want_fields = refl
 
   pub want_few : length (bytes_of ((answer 2).fields ns)) < 2 ^ 32

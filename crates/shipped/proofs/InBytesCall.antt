@@ -5,7 +5,7 @@ use Rattle.std.proofs.Common.{ap, ◌∙◌, arith, take_at, eqb-true}
 use mathlib.Core.List.{List, [], ◌∷◌, ◌++◌, flat_map, append_assoc}
 use Rattle.std.proofs.Math.ListN.{take, drop, length-append, length-take, get_or-append}
 use Rattle.std.proofs.Math.Seq.{take-add, drop_at, drop-drop, get_or_at, get_or-take}
-use Rattle.laws.specs.Bool.{if◌then◌else◌, ◌and◌, split}
+use Rattle.laws.specs.Bool.{when◌then◌else◌, ◌and◌, split}
 use Rattle.laws.specs.Every.{every}
 use Rattle.workflow.specs.Layout.{numbers as sheet_length}
 use Rattle.host.specs.Layout as layout
@@ -74,7 +74,7 @@ GotNumbers no_numbers ns = has_record (numbers_in ns) ≡ false
 GotNumbers (numbers_stand stand) ns = (has_record (numbers_in ns) ≡ true) × (run_in ns ≡ stand)
 
 pub mark_there : (stand : Standing) (bytes rest : List ℕ) (at : ℕ) → drop at bytes ≡ given_bytes stand ++ rest → numbers_at 2 1 bytes at ≡ got (mark_of stand ∷ []) (at + 1)
-unfolding flat_map leb128 groups if◌then◌else◌ every ◌and◌
+unfolding flat_map leb128 groups when◌then◌else◌ every ◌and◌
 mark_there nothing bytes rest at e = numbers_there 2 1 bytes rest (0 ∷ []) at (omega arith) refl refl e
 mark_there (run_bytes run) bytes rest at e = numbers_there 2 1 bytes (run ++ rest) (1 ∷ []) at (omega arith) refl refl e
 
@@ -222,7 +222,7 @@ module _ (sheet : List ℕ) (tidy : sheet_shape.tidy sheet ≡ true) {stand : St
 
 -- WHAT THE CALL GETS.
 pub numbers_got : (sheet : List ℕ) → sheet_shape.tidy sheet ≡ true → (stand : Standing) (k : Numbers) → Same stand k → {bytes : List ℕ} → Gets sheet stand bytes → (ns : List ℕ) (next : ℕ) → call.read bytes 0 ≡ got ns next → GotNumbers k (without_sheet ns)
-unfolding if◌then◌else◌
+unfolding when◌then◌else◌
 numbers_got sheet tidy nothing no_numbers same gets ns next e = mark_is sheet tidy gets ns (parts_read sheet tidy gets ns next e)
 numbers_got sheet tidy nothing (numbers_stand xs) same gets ns next e = absurd same
 numbers_got sheet tidy (run_bytes _) no_numbers same gets ns next e = absurd same
@@ -248,12 +248,12 @@ pub never_said : {G : Type 0} {ns : List ℕ} → unread ≡ said ns → G
 never_said {G} {ns} e = let z : ◌≡◌ {A = ℕ} 0 1 = cc in absurd (omega arith)
 
 ended_same : (size : ℕ) (r : Read (List ℕ)) (ns : List ℕ) (next : ℕ) → ended size r ≡ got ns next → r ≡ got ns next
-unfolding ended if◌then◌else◌
+unfolding ended when◌then◌else◌
 ended_same size bad ns next e = not_bad e
 ended_same size (got ms p) ns next e = split (eqb p size) (λ t. rw t at e) (λ t. not_bad (rw t at e))
 
 on_said : (sheet call given ds : List ℕ) → on_numbers sheet call given ≡ said ds → (receipt sheet_length call given layout.answer_length ≡ layout.written) × (ds ≡ decision_numbers (decided sheet call given))
-unfolding on_numbers if◌then◌else◌
+unfolding on_numbers when◌then◌else◌
 on_said sheet call given ds e =
     split (eqb (receipt sheet_length call given layout.answer_length) layout.written)
     (λ t.

@@ -5,7 +5,7 @@ use Rattle.std.proofs.Common.{sym, ◌∙◌, inl, inr, arith}
 use mathlib.Core.List.{List, [], ◌∷◌}
 use Rattle.std.proofs.lemmas.List.{length-replicate}
 use borrow.Author.Tests.{eqb-true, ne_eqb}
-use Rattle.laws.specs.Bool.{if◌then◌else◌, ◌and◌, split}
+use Rattle.laws.specs.Bool.{when◌then◌else◌, ◌and◌, split}
 use Rattle.laws.specs.All.{All}
 use Rattle.workflow.specs.Layout.{numbers as sheet_length}
 use Rattle.workflow.specs.View.{Workflow, workflow}
@@ -47,7 +47,7 @@ said_same e = cc
 
 -- WHAT IS TOLD. Of an answer in numbers its bytes fit, where it has them.
 heard : (room : ℕ) (d : Decided) (ds : List ℕ) → told_in room d ≡ said ds → d ≡ said ds
-unfolding told_in if◌then◌else◌
+unfolding told_in when◌then◌else◌
 heard room unread ds e = never_said e
 heard room (said ns) ds e =
     split (eqb (at ns layout.answer_kind) 3) (λ t. rw t at e)
@@ -58,11 +58,11 @@ module _ (room : ℕ) (ds : List ℕ) (other : at ds layout.answer_kind ≡ 3 �
   its_bytes = bytes_of ((answer_shape (at ds layout.answer_kind)).fields ds)
 
   fitting : told_in room (said ds) ≡ said ds → ltb room (length its_bytes) ≡ false
-  unfolding told_in if◌then◌else◌
+  unfolding told_in when◌then◌else◌
   fitting e = split (ltb room (length its_bytes)) (λ u. never_said (rw (ne_eqb (at ds layout.answer_kind) 3 other, u) at e)) (λ u. u)
 
   told_done : ltb room (length its_bytes) ≡ false → told_of room (said ds) ≡ done (length its_bytes) its_bytes
-  unfolding told_of into if◌then◌else◌
+  unfolding told_of into when◌then◌else◌
   told_done u = rw (ne_eqb (at ds layout.answer_kind) 3 other, u)
 
 -- what is returned and left tells the bytes
@@ -78,7 +78,7 @@ unfolding packed narrow
 packed_number n rest h = omega arith
 
 tells_none : (room : ℕ) (d : Decided) → told_in room d ≡ unread → (returned_by (told_of room d) % 2 ^ 32 ≡ bad_bytes) ⊎ (returned_by (told_of room d) % 2 ^ 32 ≡ short)
-unfolding told_in told_of into returned_by if◌then◌else◌
+unfolding told_in told_of into returned_by when◌then◌else◌
 tells_none room unread e = inl (packed_number bad_bytes no_item (omega arith))
 tells_none room (said ns) e =
     split (eqb (at ns layout.answer_kind) 3) (λ t. never_said (sym (rw t at e)))
@@ -87,11 +87,11 @@ tells_none room (said ns) e =
     (λ u. never_said (sym (rw (t, u) at e))))
 
 tells_refusal : (room : ℕ) (ns : List ℕ) → at ns layout.answer_kind ≡ 3 → at ns layout.answer_refusal_number < 2 ^ 32 → returned_by (told_of room (said ns)) % 2 ^ 32 ≡ at ns layout.answer_refusal_number
-unfolding told_of returned_by if◌then◌else◌
+unfolding told_of returned_by when◌then◌else◌
 tells_refusal room ns k h = rw k (packed_number (at ns layout.answer_refusal_number) (at ns layout.answer_refusal_item) h)
 
 tells_written : (room : ℕ) (ns : List ℕ) → told_in room (said ns) ≡ said ns → (at ns layout.answer_kind ≡ 3 → ⊥) → returned_by (told_of room (said ns)) % 2 ^ 32 ≡ layout.written
-unfolding told_in told_of into returned_by if◌then◌else◌
+unfolding told_in told_of into returned_by when◌then◌else◌
 tells_written room ns e k =
     let t = ne_eqb (at ns layout.answer_kind) 3 k in
     split (ltb room (length (bytes_of ((answer_shape (at ns layout.answer_kind)).fields ns)))) (λ u. never_said (rw (t, u) at e))
@@ -99,7 +99,7 @@ tells_written room ns e k =
 
 -- THE NUMBERS OF A REFUSAL.
 refusal_numbers : (a : Answer) (ns : List ℕ) → answer_of_numbers ns ≡ a → KnownAnswer a → at ns layout.answer_kind ≡ 3 → (0 < at ns layout.answer_refusal_number) × (at ns layout.answer_refusal_number < bad_bytes)
-unfolding answer_of_numbers if◌then◌else◌
+unfolding answer_of_numbers when◌then◌else◌
 refusal_numbers a ns e known k =
     let f : refused (at ns layout.answer_refusal_number) (at ns layout.answer_refusal_item) ≡ a = rw k at e in
     rw (← f) at known
@@ -218,7 +218,7 @@ module _ (sheet : List ℕ) (tidy : sheet_shape.tidy sheet ≡ true) where
   module _ (made : Made) (before : List Made) (follows : Follows sheet made before) (so_far : Reads before) where
     -- without an answer
     reads_on : answer_to made ≡ unread → Reads (made ∷ before)
-    unfolding all_numbered with_numbered standing accepts entries with_entry if◌then◌else◌
+    unfolding all_numbered with_numbered standing accepts entries with_entry when◌then◌else◌
     reads_on e =
         record {
           ran = rw e so_far.ran;
@@ -330,12 +330,12 @@ module _ (sheet : List ℕ) (tidy : sheet_shape.tidy sheet ≡ true) where
           }
 
       -- the run that stands then
-      stands_then : Same (if eqb (at ds layout.answer_kind) 1 then run_bytes (run_in_answer (answer_in made)) else standing before) (if eqb (at ds layout.answer_kind) 1 then numbers_stand (drop layout.answer_record ds) else shipped.standing (all_numbered before))
-      unfolding if◌then◌else◌
+      stands_then : Same (when eqb (at ds layout.answer_kind) 1 then run_bytes (run_in_answer (answer_in made)) else standing before) (when eqb (at ds layout.answer_kind) 1 then numbers_stand (drop layout.answer_record ds) else shipped.standing (all_numbered before))
+      unfolding when◌then◌else◌
       stands_then = split (eqb (at ds layout.answer_kind) 1) (λ t. let one = eqb-true _ 1 t in rw t (run_there one, (its_parts one).run_tidy, (next_here one).fits)) (λ t. rw t so_far.stands)
 
       reads_more : Reads (made ∷ before)
-      unfolding all_numbered with_numbered standing accepts entries with_entry shipped.standing shipped.entries shipped.Ran ◌and◌ if◌then◌else◌
+      unfolding all_numbered with_numbered standing accepts entries with_entry shipped.standing shipped.entries shipped.Ran ◌and◌ when◌then◌else◌
       reads_more =
           let g = numbers_got sheet tidy (standing before) (shipped.standing (all_numbered before)) so_far.stands follows.gets answered_so.numbers answered_so.next answered_so.read in
           record {

@@ -6,7 +6,7 @@ use Rattle.std.proofs.lemmas.Bool.{false≢true}
 use mathlib.Core.List.{List, [], ◌∷◌, ◌++◌, flat_map, append-nil}
 use Rattle.std.proofs.lemmas.List.{get_or_at}
 use borrow.Author.Tests.{eq-eqb, lt-ltb}
-use Rattle.laws.specs.Bool.{if◌then◌else◌, ◌and◌}
+use Rattle.laws.specs.Bool.{when◌then◌else◌, ◌and◌}
 use Rattle.laws.specs.Every.{every}
 use Rattle.laws.specs.Listing.{padded}
 use Rattle.workflow.specs.Layout.{numbers as sheet_length}
@@ -55,7 +55,7 @@ record GivenRead (stand : Standing) (bytes : List ℕ) (at : ℕ) : Type 0 where
   fits : eqb (mark_of stand) 1 ≡ true → record_fits ns ≡ true
 
 given_read : (stand : Standing) (k : Numbers) → Same stand k → (bytes rest : List ℕ) (at : ℕ) → drop at bytes ≡ run_of stand ++ rest → GivenRead stand bytes at
-unfolding flat_map if◌then◌else◌ every
+unfolding flat_map when◌then◌else◌ every
 given_read nothing no_numbers same bytes rest at e =
     record {
       ns = padded layout.record_length 0 [];
@@ -191,7 +191,7 @@ module _ (sheet : List ℕ) (tidy : sheet_shape.tidy sheet ≡ true) {stand : St
       omega arith
 
   whole_read : whole call bytes ≡ got all_numbers last
-  unfolding ended if◌then◌else◌
+  unfolding ended when◌then◌else◌
   whole_read = rw (call_read, eq-eqb last (length bytes) ends)
 
   -- ITS NUMBERS: those of the call, and the run's.
@@ -239,5 +239,5 @@ module _ (sheet : List ℕ) (tidy : sheet_shape.tidy sheet ≡ true) {stand : St
 
   -- SO IT IS DECIDED.
   pub taken : decide bytes ≡ unread → ⊥
-  unfolding decide on_numbers if◌then◌else◌
+  unfolding decide on_numbers when◌then◌else◌
   taken e = never_said (sym (rw (whole_read, others_are, call_is, run_is, eq-eqb _ layout.written received) at e))

@@ -2,7 +2,7 @@
 use Rattle.std.specs.Prelude.{◌≡◌, refl, Bool, true, false, ◌⊎◌, List, [], ◌∷◌, ℕ, ◌<◌, ltb}
 use Rattle.std.proofs.Common.{inl, inr, ltb-true}
 use native.Mathlib.Omega.{arith}
-use Rattle.laws.specs.Bool.{if◌then◌else◌, either}
+use Rattle.laws.specs.Bool.{when◌then◌else◌, either}
 use Rattle.laws.specs.Rows.{span}
 use Rattle.laws.specs.In.{Hit, hit, miss, hits}
 use Rattle.workflow.specs.Code.{none}
@@ -40,7 +40,7 @@ known_broken n i a b =
     record { known = λ k j e. let z : n ≡ k = cc in (omega arith, omega arith) }
 
 known_rule : (n : ℕ) (b : Bool) → ltb 0 n ≡ true → ltb n 31 ≡ true → Known (rule n b)
-unfolding if◌then◌else◌
+unfolding when◌then◌else◌
 known_rule n true x y = known_fine
 known_rule n false x y = known_broken n none x y
 
@@ -60,8 +60,8 @@ known_next (Broken k i) vs m n = m
 
 ruleset known_stages = (known_none, known_next, known_rule, known_rule_at)
 
-known_if : (b : Bool) (n i : ℕ) {v : Verdict} → ltb 0 n ≡ true → ltb n 31 ≡ true → Known v → Known (if b then Broken n i else v)
-unfolding if◌then◌else◌
+known_if : (b : Bool) (n i : ℕ) {v : Verdict} → ltb 0 n ≡ true → ltb n 31 ≡ true → Known v → Known (when b then Broken n i else v)
+unfolding when◌then◌else◌
 known_if true n i x y m = known_broken n i x y
 known_if false n i x y m = m
 

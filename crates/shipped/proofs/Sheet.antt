@@ -3,7 +3,7 @@ use Rattle.std.specs.Prelude.{◌≡◌, Bool, true, false, List, ℕ, ◌+◌, 
 use Rattle.std.proofs.lemmas.Bool.{false≢true}
 use Rattle.std.proofs.Common.{arith}
 use borrow.Author.Tests.{eq-eqb, eqb-true, ltb-true, leb-false}
-use Rattle.laws.specs.Bool.{if◌then◌else◌, both, either, neither, implied}
+use Rattle.laws.specs.Bool.{when◌then◌else◌, both, either, neither, implied}
 use Rattle.laws.specs.All.{All, all_get_d, all_in}
 use Rattle.laws.specs.In.{Hit, hit, miss, hits}
 use Rattle.workflow.specs.Code.{activity}
@@ -67,8 +67,8 @@ pub record Sheet (f : Workflow) : Type 0 where
   pub action_of : (n : ℕ) → n < f.node_count → (node_of f n).kind ≡ activity → Name (node_of f n).action
 
 -- A code of 16 bits, by the node's kind: 0 but for a fail node.
-by_test : {G : Type 0} (b x y : Bool) → (x ≡ true → G) → (y ≡ true → G) → (if b then x else y) ≡ true → G
-unfolding if◌then◌else◌
+by_test : {G : Type 0} (b x y : Bool) → (x ≡ true → G) → (y ≡ true → G) → (when b then x else y) ≡ true → G
+unfolding when◌then◌else◌
 by_test true x y p q e = p e
 by_test false x y p q e = q e
 

@@ -5,7 +5,7 @@ use Rattle.std.proofs.Common.{◌∙◌, arith, length-append, get_or-append-add
 use mathlib.Core.List.{List, [], ◌∷◌, ◌++◌, flat_map, append_assoc, append-nil}
 use Rattle.std.proofs.Math.Dec.{ltb}
 use Rattle.std.proofs.Math.ListN.{length, get_or-append}
-use Rattle.laws.specs.Bool.{if◌then◌else◌, ◌and◌, join}
+use Rattle.laws.specs.Bool.{when◌then◌else◌, ◌and◌, join}
 use Rattle.laws.specs.All.{all_replicate}
 use Rattle.laws.specs.Every.{every, every_append}
 use Rattle.laws.specs.Listing.{padded}
@@ -138,7 +138,7 @@ module _ (f : Workflow) (a : Accepted) (proper : Proper f (next a)) (below : all
       endings_below.0 (past_zero ending_numbers no_ending ending_blank layout.endings a.endings))
 
   pub next_tidy : (answer 1).tidy (decision_numbers (decision_of (next a))) ≡ true
-  unfolding answer if◌then◌else◌ bytes.next numbers column
+  unfolding answer when◌then◌else◌ bytes.next numbers column
   next_tidy =
       let n = flat_size note_numbers layout.notes length_note (padded layout.notes no_note a.notes) notes_long in
       let e = flat_size ending_numbers layout.endings length_ending (padded layout.endings no_ending a.endings) endings_long in
@@ -177,7 +177,7 @@ module _ (f : Workflow) (node field from : ℕ) (s : State) (fits : Tidies f s) 
   want_below = every_parts (λ n. ltb n (2 ^ 64)) (2 ∷ node ∷ field ∷ from ∷ []) (between ++ (record_numbers s ++ [])) (rw want_laid at below)
 
   pub want_tidy : (answer 2).tidy (decision_numbers (decision_of (wants node field from s))) ≡ true
-  unfolding answer if◌then◌else◌ bytes.want numbers column
+  unfolding answer when◌then◌else◌ bytes.want numbers column
   want_tidy =
       let b = every_parts (λ n. ltb n (2 ^ 64)) between (record_numbers s ++ []) want_below.1 in
       let t = tidies_tidy f s fits (every_parts (λ n. ltb n (2 ^ 64)) (record_numbers s) [] b.1).0 in

@@ -4,7 +4,7 @@ use Rattle.std.proofs.Math.Path.{sym}
 use Rattle.std.proofs.Common.{◌∙◌, arith}
 use mathlib.Core.List.{List, [], ◌∷◌, ◌++◌, flat_map}
 use borrow.Author.Tests.{eq-eqb, leb-true}
-use Rattle.laws.specs.Bool.{if◌then◌else◌, ◌and◌, ◌or◌, split, both, join, if_true, if_false}
+use Rattle.laws.specs.Bool.{when◌then◌else◌, ◌and◌, ◌or◌, split, both, join, if_true, if_false}
 use Rattle.laws.specs.Every.{every}
 use Rattle.workflow.specs.View.{Workflow}
 use Rattle.model.specs.declared.Output.{Output}
@@ -40,7 +40,7 @@ signal_blank x h =
     join _ _ a.0 (join _ _ b.0 (join _ _ c.0 (join _ _ d.0 (join _ _ d.1 refl))))
 
 -- of a node of the sheet, or of one that it lacks
-streak_blank : (f : Workflow) (n : ℕ) (x : Streak) → (if ltb n f.node_count then streak_fits f n x else streak_zero x) ≡ true → get_or (streak_numbers x) 1 0 ≡ 0 → all_zero (streak_numbers x) ≡ true
+streak_blank : (f : Workflow) (n : ℕ) (x : Streak) → (when ltb n f.node_count then streak_fits f n x else streak_zero x) ≡ true → get_or (streak_numbers x) 1 0 ≡ 0 → all_zero (streak_numbers x) ≡ true
 unfolding streak_numbers every
 streak_blank f n x h z =
     let c : eqb x.count 0 ≡ true = eq-eqb x.count 0 z in
@@ -48,7 +48,7 @@ streak_blank f n x h z =
     split (ltb n f.node_count) (λ t. sym (if_true _ _ _ c) ∙ sym (if_true _ _ _ t) ∙ h) (λ t. (both _ _ (sym (if_false _ _ _ t) ∙ h)).0) in
     join _ _ o (join _ _ c refl)
 
-result_blank : (f : Workflow) (n : ℕ) (x : NodeResult) (o : Output) → x.output ≡ o → (if ltb n f.node_count then result_fits x else result_zero x) ≡ true → get_or (result_numbers x) 2 0 ≡ 0 → all_zero (result_numbers x) ≡ true
+result_blank : (f : Workflow) (n : ℕ) (x : NodeResult) (o : Output) → x.output ≡ o → (when ltb n f.node_count then result_fits x else result_zero x) ≡ true → get_or (result_numbers x) 2 0 ≡ 0 → all_zero (result_numbers x) ≡ true
 unfolding result_numbers output_numbers every ◌or◌ ◌and◌
 result_blank f n x Output.Nothing e h z =
     let unused : (eqb x.visit 0 and eqb x.outcome 0) ≡ true = split (ltb n f.node_count) (λ t. rw e at (sym (if_true _ _ _ t) ∙ h)) (λ t. rw e at (sym (if_false _ _ _ t) ∙ h)) in

@@ -3,7 +3,7 @@
 -- (codec, Numbers), and of a sheet, a run, a call and an answer (bytes, Sheet, Run, Call, Answer); how numbers are read, `call_of` and `record_of` (host, Read) and
 -- `answer_of_numbers` (host, ReadAnswer); and the claim, `Demand3` (demand3, Demand3).
 use Rattle.std.specs.Prelude.{◌≡◌, Bool, true, false, ◌⊎◌, List, [], ◌∷◌, ◌++◌, ℕ, ◌+◌, ◌*◌, ◌/◌, ◌%◌, ◌^◌, ◌≤◌, ◌<◌, ltb, eqb, length, take, drop}
-use Rattle.laws.specs.Bool.{if◌then◌else◌}
+use Rattle.laws.specs.Bool.{when◌then◌else◌}
 use Rattle.laws.specs.Listing.{padded}
 use Rattle.kernel.specs.Call.{Accepted, next, given_record}
 use Rattle.demand3.specs.Demand3.{Entry}
@@ -31,8 +31,8 @@ came_to made = call_bytes made.bytes (length made.buffer)
 -- ITS ANSWER, in numbers. Bad bytes (31) have none; and where the bytes of an answer don't fit the buffer (32), there is none either. A refusal has no bytes.
 unfoldable pub told_in : (room : ℕ) → Decided → Decided
 told_in room (said ns) =
-    if eqb (at ns layout.answer_kind) 3 then said ns else
-    if ltb room (length (bytes_of ((answer_shape (at ns layout.answer_kind)).fields ns))) then unread else said ns
+    when eqb (at ns layout.answer_kind) 3 then said ns else
+    when ltb room (length (bytes_of ((answer_shape (at ns layout.answer_kind)).fields ns))) then unread else said ns
 told_in room unread = unread
 
 abbrev pub answer_to : Made → Decided
@@ -69,7 +69,7 @@ pub data Standing : Type 0 where
 
 unfoldable pub standing : List Made → Standing
 standing [] = nothing
-standing (made ∷ before) = if is_accepted made then run_bytes (run_in_answer (answer_in made)) else standing before
+standing (made ∷ before) = when is_accepted made then run_bytes (run_in_answer (answer_in made)) else standing before
 
 abbrev pub given_bytes : Standing → List ℕ
 given_bytes nothing = 0 ∷ []

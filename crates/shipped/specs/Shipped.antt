@@ -3,7 +3,7 @@
 -- A reader needs of other files: what the function ensures, `receipt` and `answered` (host, Host); the layout's lengths, `Lent` (host, HostLaws); how numbers are
 -- read, `call_of` and `record_of` (host, Read) and `answer_of_numbers` (host, ReadAnswer); and the claim, `Demand3` (demand3, Demand3).
 use Rattle.std.specs.Prelude.{◌≡◌, Bool, true, false, List, [], ◌∷◌, ◌++◌, ℕ, length, take, drop, eqb}
-use Rattle.laws.specs.Bool.{if◌then◌else◌, ◌and◌}
+use Rattle.laws.specs.Bool.{when◌then◌else◌, ◌and◌}
 use Rattle.kernel.specs.declared.Call.{Call}
 use Rattle.kernel.specs.Call.{given_record}
 use Rattle.demand3.specs.Demand3.{Entry}
@@ -45,7 +45,7 @@ pub data Standing : Type 0 where
 
 unfoldable pub standing : List Made → Standing
 standing [] = nothing
-standing (made ∷ before) = if is_accepted made then numbers (record_in made.after) else standing before
+standing (made ∷ before) = when is_accepted made then numbers (record_in made.after) else standing before
 
 -- Each call gets the record that stands, and says that it does. Where none stands it says so, and what is lent as a record is any.
 abbrev pub Gets : Standing → Made → Type 0
@@ -77,9 +77,9 @@ entry made =
 
 unfoldable pub entries : List Made → List Entry
 entries [] = []
-entries (made ∷ before) = if is_answered made then entry made ∷ entries before else entries before
+entries (made ∷ before) = when is_answered made then entry made ∷ entries before else entries before
 
 -- The answered calls, oldest first.
 unfoldable pub calls : List Made → List Call
 calls [] = []
-calls (made ∷ before) = if is_answered made then calls before ++ (call_of made.call ∷ []) else calls before
+calls (made ∷ before) = when is_answered made then calls before ++ (call_of made.call ∷ []) else calls before

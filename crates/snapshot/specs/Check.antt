@@ -1,6 +1,6 @@
 -- The run check: `consistent` and `owned_by` of snapshot.rs, and what document 01 adds.
 use Rattle.std.specs.Prelude.{Bool, true, false, not, ℕ, get_or, ltb, leb, eqb}
-use Rattle.laws.specs.Bool.{if◌then◌else◌, ◌and◌, ◌or◌}
+use Rattle.laws.specs.Bool.{when◌then◌else◌, ◌and◌, ◌or◌}
 use Rattle.laws.specs.Every.{below}
 use Rattle.workflow.specs.Code.{none, activity, await_signal}
 use Rattle.workflow.specs.Layout.{node_room}
@@ -43,13 +43,13 @@ allows Nothing count = false
 
 abbrev pub streak_fits : Workflow → (node : ℕ) → Streak → Bool
 streak_fits sheet node streak =
-    if eqb streak.count 0 then eqb streak.outcome 0 else allows (limit_of sheet node streak.outcome) streak.count
+    when eqb streak.count 0 then eqb streak.outcome 0 else allows (limit_of sheet node streak.outcome) streak.count
 
 -- The slots of a node, of the sheet or not. (`results` are the original's `State.nodes`.)
 abbrev pub slot_fits : Workflow → State → (node : ℕ) → Bool
 slot_fits sheet state node =
     let result = get_or state.results node no_node_result in
-    if ltb node sheet.node_count
+    when ltb node sheet.node_count
     then result_fits result and streak_fits sheet node (streak_of state node)
     else eqb (visits_of state node).count 0 and result_zero result and streak_zero (streak_of state node)
 
@@ -97,7 +97,7 @@ owned_by invocation position action =
     and eqb invocation.visit position.visit
     and eqb invocation.action action
     and ltb 0 invocation.attempt
-    and (if keeps_error invocation.error then eqb invocation.phase stuck else not (eqb invocation.phase stuck))
+    and (when keeps_error invocation.error then eqb invocation.phase stuck else not (eqb invocation.phase stuck))
 
 -- A running state has a scheduled invocation, one that needs intervention an unknown or, in format 2, a stuck one. (`phase` is the original's `InvocationState.state`.)
 abbrev pub phase_fits : Workflow → (status phase : ℕ) → Bool
@@ -121,13 +121,13 @@ live_fits sheet state =
     and ltb 0 state.position.visit
     and eqb (visits_of state state.position.node).count state.position.visit
     and (
-    if eqb state.status waiting
+    when eqb state.status waiting
     then waits (node_of sheet state.position.node) state
     else works sheet (node_of sheet state.position.node) state
     )
 
 unfoldable pub stands : Workflow → State → Bool
-stands sheet state = if is_terminal state.status then terminal_fits state else live_fits sheet state
+stands sheet state = when is_terminal state.status then terminal_fits state else live_fits sheet state
 
 -- THE RUN CHECK: counters, store, slots, where the run stands, and that an ended run holds no signal (document 02, T-02).
 unfoldable pub consistent : Workflow → State → Bool

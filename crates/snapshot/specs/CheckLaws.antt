@@ -3,7 +3,7 @@ use Rattle.std.specs.Prelude.{◌≡◌, refl, Bool, true, false, not, ◌&&◌,
 use Rattle.std.proofs.Math.Path.{sym}
 use Rattle.std.proofs.Common.{◌∙◌, ap, arith, lt-ltb, le-ltb, take_all}
 use Rattle.std.proofs.Math.Dec.{eqb-zero-suc}
-use Rattle.laws.specs.Bool.{if◌then◌else◌, ◌and◌, and_true, if_true, if_false}
+use Rattle.laws.specs.Bool.{when◌then◌else◌, ◌and◌, and_true, if_true, if_false}
 use Rattle.laws.specs.First.{Seek}
 use Rattle.laws.specs.Rows.{span}
 use Rattle.laws.specs.Every.{every, below, every_then}
@@ -31,7 +31,7 @@ use Rattle.model.specs.declared.State.{State}
 -- A node's slots, of the sheet or not.
 unfoldable pub node_fits : Workflow → (node : ℕ) → Visits → NodeResult → Streak → Bool
 node_fits f n v x k =
-    if ltb n f.node_count
+    when ltb n f.node_count
     then result_fits x and streak_fits f n k
     else eqb v.count 0 and result_zero x and streak_zero k
 
@@ -52,12 +52,12 @@ terminal_by k p i x = is_no_position p and is_no_invocation i and result_of_stat
 
 -- Exactly a stuck invocation keeps an error.
 abbrev pub error_fits : (phase : ℕ) → Kept → Bool
-error_fits p x = if keeps_error x then eqb p stuck else not (eqb p stuck)
+error_fits p x = when keeps_error x then eqb p stuck else not (eqb p stuck)
 
 -- A node that waits or works.
 unfoldable pub invocation_fits : Workflow → Node → (status : ℕ) → Position → InvocationState → Bool
 invocation_fits f x k p i =
-    if eqb k waiting
+    when eqb k waiting
     then eqb x.kind await_signal and is_no_invocation i
     else eqb x.kind activity and phase_fits f k i.phase and owned_by i p x.action
 

@@ -2,7 +2,7 @@
 use Rattle.std.specs.Prelude.{◌≡◌, refl, Bool, true, false, List, [], ◌∷◌, ℕ, ◌+◌, ◌≤◌, ◌<◌}
 use Rattle.std.proofs.Math.Path.{sym, ap}
 use Rattle.std.proofs.Common.{◌∙◌, arith, lt-ltb}
-use Rattle.laws.specs.Bool.{if◌then◌else◌, split, if_true}
+use Rattle.laws.specs.Bool.{when◌then◌else◌, split, if_true}
 use Rattle.laws.specs.Rows.{span}
 use Rattle.laws.specs.First.{first, first_same}
 use Rattle.workflow.specs.Layout as layout
@@ -36,7 +36,7 @@ pub record Columns (major minor value count : ℕ) : Type 0 where
   pub value_fits : value + count ≤ layout.numbers
 
 pub found_first : {A : Type 0} (p : A → Bool) (t : A → ℕ) (i : ℕ) (xs : List A) → found (first p (λ _ x. At (t x)) Nothing i xs) ≡ first p (λ _ _. true) false i xs
-unfolding first if◌then◌else◌
+unfolding first when◌then◌else◌
 found_first p t i [] = refl
 found_first p t i (x ∷ xs) = split (p x) (λ h. rw h) (λ h. rw h (found_first p t (i + 1) xs))
 

@@ -1,6 +1,6 @@
 -- How the lent numbers of a sheet are read: a workflow is a record of lists of rows.
 use Rattle.std.specs.Prelude.{Bool, List, [], ◌∷◌, ℕ, ◌+◌, min, get_or, ltb, eqb}
-use Rattle.laws.specs.Bool.{if◌then◌else◌}
+use Rattle.laws.specs.Bool.{when◌then◌else◌}
 use Rattle.laws.specs.Rows.{span}
 use Rattle.laws.specs.Every.{every}
 use Rattle.workflow.specs.Layout as layout
@@ -37,7 +37,7 @@ no_declared = record { action = 0; outcome = 0 }
 -- A row, counted or not: one number of each column.
 unfoldable pub node_at : (sheet : List ℕ) → (row : ℕ) → Node
 node_at sheet row =
-    if ltb row node_room then record {
+    when ltb row node_room then record {
       kind = cell sheet layout.node_kind row;
       action = cell sheet layout.node_action row;
       has_params = cell sheet layout.node_has_params row;
@@ -49,7 +49,7 @@ node_at sheet row =
 
 unfoldable pub route_at : (sheet : List ℕ) → (row : ℕ) → Route
 route_at sheet row =
-    if ltb row route_room then record {
+    when ltb row route_room then record {
       node = cell sheet layout.route_node row;
       outcome = cell sheet layout.route_outcome row;
       target = cell sheet layout.route_target row;
@@ -57,7 +57,7 @@ route_at sheet row =
 
 unfoldable pub limit_at : (sheet : List ℕ) → (row : ℕ) → Limit
 limit_at sheet row =
-    if ltb row limit_room then record {
+    when ltb row limit_room then record {
       node = cell sheet layout.limit_node row;
       outcome = cell sheet layout.limit_outcome row;
       limit = cell sheet layout.limit_limit row;
@@ -65,14 +65,14 @@ limit_at sheet row =
 
 unfoldable pub action_at : (sheet : List ℕ) → (row : ℕ) → Action
 action_at sheet row =
-    if ltb row action_room then record {
+    when ltb row action_room then record {
       effect = cell sheet layout.action_effect row;
       max_attempts = cell sheet layout.action_max_attempts row;
     } else no_action
 
 unfoldable pub declared_at : (sheet : List ℕ) → (row : ℕ) → Declared
 declared_at sheet row =
-    if ltb row declared_room then record {
+    when ltb row declared_room then record {
       action = cell sheet layout.declared_action row;
       outcome = cell sheet layout.declared_outcome row;
     } else no_declared

@@ -1,15 +1,15 @@
-use Rattle.laws.specs.Bool.{if◌then◌else◌}
+use Rattle.laws.specs.Bool.{when◌then◌else◌}
 use borrow.Author.Tests.{eq-eqb, ne_eqb}
 use Rattle.snapshot.proofs.streak_fits.Goals as goal
 
 pub returns-then-x-eq0 : goal.returns-then-x-eq0
-unfolding if◌then◌else◌
+unfolding when◌then◌else◌
 returns-then-x-eq0 c = simp (eq-eqb _ _ c.if-x-eq0.true)
 
 pub returns-in-At : goal.returns-in-At
-unfolding if◌then◌else◌
+unfolding when◌then◌else◌
 returns-in-At c = simp (ne_eqb _ _ c.if-x-eq0.false, ← c.find_limit.ensures, c.in-At.is)
 
 pub returns-in-Nothing : goal.returns-in-Nothing
-unfolding if◌then◌else◌
+unfolding when◌then◌else◌
 returns-in-Nothing c = simp (ne_eqb _ _ c.if-x-eq0.false, ← c.find_limit.ensures, c.in-Nothing.is)

@@ -1,12 +1,12 @@
 use borrow.Author.Tests.{le-ltb, lt-ltb}
 use Rattle.workflow.specs.View.{declared_at}
-use Rattle.laws.specs.Bool.{if◌then◌else◌}
+use Rattle.laws.specs.Bool.{when◌then◌else◌}
 use Rattle.workflow.proofs.declared_at.Goals as goal
 
 pub returns-then-i-lt-DECLARED : goal.returns-then-i-lt-DECLARED
-unfolding declared_at if◌then◌else◌
+unfolding declared_at when◌then◌else◌
 returns-then-i-lt-DECLARED c = simp (lt-ltb _ _ c.if-i-lt-DECLARED.true)
 
 pub returns : goal.returns
-unfolding declared_at if◌then◌else◌
+unfolding declared_at when◌then◌else◌
 returns c = simp (le-ltb _ _ c.if-i-lt-DECLARED.false)

@@ -1,5 +1,5 @@
 use borrow.Author.Tests.{ne_eqb}
-use Rattle.laws.specs.Bool.{if◌then◌else◌}
+use Rattle.laws.specs.Bool.{when◌then◌else◌}
 use Rattle.graph.specs.Form.{formed_node}
 use Rattle.graph.specs.FormLaws.{activity_fits, await_fits, complete_fits, fail_fits}
 use Rattle.graph.proofs.form.formed_node.Goals as goal
@@ -17,5 +17,5 @@ pub returns-then-x-eq-FAIL : goal.returns-then-x-eq-FAIL
 returns-then-x-eq-FAIL c = fail_fits _ c.if-x-eq-FAIL.true
 
 pub returns : goal.returns
-unfolding formed_node if◌then◌else◌
+unfolding formed_node when◌then◌else◌
 returns c = simp (ne_eqb _ _ c.if-x-eq-FAIL.false, ne_eqb _ _ c.if-x-eq-COMPLETE.false, ne_eqb _ _ c.if-x-eq-AWAIT_SIGNAL.false, ne_eqb _ _ c.if-x-eq-ACTIVITY.false)

@@ -1,7 +1,7 @@
 use Rattle.graph.specs.RulesLaws.{breaks}
-use Rattle.laws.specs.Bool.{if◌then◌else◌}
+use Rattle.laws.specs.Bool.{when◌then◌else◌}
 use Rattle.graph.proofs.rules.rule_9.Goals as goal
 
 pub returns : goal.returns
-unfolding breaks if◌then◌else◌
+unfolding breaks when◌then◌else◌
 returns c = rw (c.rule_at.ensures, c.lowest_breaking.ensures)

@@ -1,12 +1,12 @@
-use Rattle.laws.specs.Bool.{if◌then◌else◌}
+use Rattle.laws.specs.Bool.{when◌then◌else◌}
 use Rattle.host.specs.Read.{kept_of}
 use borrow.Author.Tests.{eq-eqb, ne_eqb}
 use Rattle.host.proofs.read.kept.Goals as goal
 
 pub returns-then-tag-eq0 : goal.returns-then-tag-eq0
-unfolding kept_of if◌then◌else◌
+unfolding kept_of when◌then◌else◌
 returns-then-tag-eq0 c = simp (eq-eqb _ _ c.if-tag-eq0.true)
 
 pub returns : goal.returns
-unfolding kept_of if◌then◌else◌
+unfolding kept_of when◌then◌else◌
 returns c = simp (ne_eqb _ _ c.if-tag-eq0.false, ← c.error.ensures)

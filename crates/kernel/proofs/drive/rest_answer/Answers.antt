@@ -1,16 +1,16 @@
 use Rattle.kernel.specs.DriveLaws.{rest_answer}
-use Rattle.laws.specs.Bool.{if◌then◌else◌}
+use Rattle.laws.specs.Bool.{when◌then◌else◌}
 use borrow.Author.Tests.{le-ltb, lt-ltb}
 use Rattle.kernel.proofs.drive.rest_answer.Goals as goal
 
 pub returns-then-limits-order_count : goal.returns-then-limits-order_count
-unfolding rest_answer if◌then◌else◌
+unfolding rest_answer when◌then◌else◌
 returns-then-limits-order_count c = simp (← c.order_count.ensures, lt-ltb _ _ c.if-limits-order_count.true)
 
 pub returns-then-limits-operations : goal.returns-then-limits-operations
-unfolding rest_answer if◌then◌else◌
+unfolding rest_answer when◌then◌else◌
 returns-then-limits-operations c = simp (← c.order_count.ensures, le-ltb _ _ c.if-limits-order_count.false, lt-ltb _ _ c.if-limits-operations.true)
 
 pub returns : goal.returns
-unfolding rest_answer if◌then◌else◌
+unfolding rest_answer when◌then◌else◌
 returns c = simp (← c.order_count.ensures, le-ltb _ _ c.if-limits-order_count.false, le-ltb _ _ c.if-limits-operations.false)

@@ -1,12 +1,12 @@
-use Rattle.laws.specs.Bool.{if◌then◌else◌}
+use Rattle.laws.specs.Bool.{when◌then◌else◌}
 use Rattle.machine.specs.Events.{action_at, on_success}
 use Rattle.machine.specs.ReactionLaws.{performed}
 use Rattle.machine.proofs.events.on_success.Goals as goal
 
 pub returns-then-declares : goal.returns-then-declares
-unfolding performed on_success if◌then◌else◌
+unfolding performed on_success when◌then◌else◌
 returns-then-declares c s h = simp (action_at, h.position_is, ← c.success_outcome-outcome.ensures, ← c.action_at.ensures, ← c.declares.ensures, c.if-declares.true)
 
 pub returns : goal.returns
-unfolding on_success if◌then◌else◌
+unfolding on_success when◌then◌else◌
 returns c s h = simp (action_at, h.position_is, ← c.success_outcome-outcome.ensures, ← c.action_at.ensures, ← c.declares.ensures, c.if-declares.false, ← c.fail_invocation.ensures c.args.event s h)

@@ -1,11 +1,11 @@
-use Rattle.laws.specs.Bool.{if◌then◌else◌}
+use Rattle.laws.specs.Bool.{when◌then◌else◌}
 use Rattle.machine.specs.Events.{named_node}
 use Rattle.machine.proofs.invocation.named_node.Goals as goal
 
 pub returns-then-named : goal.returns-then-named
-unfolding named_node if◌then◌else◌
+unfolding named_node when◌then◌else◌
 returns-then-named c = simp (← c.named.ensures, c.if-named.true)
 
 pub returns : goal.returns
-unfolding named_node if◌then◌else◌
+unfolding named_node when◌then◌else◌
 returns c = simp (← c.named.ensures, c.if-named.false)

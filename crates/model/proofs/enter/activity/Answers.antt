@@ -1,6 +1,6 @@
 use mathlib.Core.Path.{sym, ◌∙◌}
 use borrow.Author.Tests.{eq-eqb, ne_eqb}
-use Rattle.laws.specs.Bool.{if◌then◌else◌}
+use Rattle.laws.specs.Bool.{when◌then◌else◌}
 use Rattle.model.specs.Step.{enter_activity}
 use Rattle.model.specs.EnterLaws.{enter_with_params, evaluates, halts}
 use Rattle.model.proofs.enter.activity.Goals as goal
@@ -10,9 +10,9 @@ unfolding enter_activity
 returns-in_default c = record { result_value = λ s k. halts _ _ _ _ _ _ _ _ c.answer-answer.ensures c.value.ensures c.in_default.is (c.halting.ensures.result_value _ s); entered_value = c.halting.ensures.entered_value }
 
 pub returns-then-row-eq1 : goal.returns-then-row-eq1
-unfolding enter_activity enter_with_params if◌then◌else◌
+unfolding enter_activity enter_with_params when◌then◌else◌
 returns-then-row-eq1 c = record { result_value = λ s k. evaluates _ _ _ _ _ _ _ _ c.answer-answer.ensures c.value.ensures c.in-At.is (c.with_params.ensures.result_value s k ∙ sym (simp (← c.node_of-row.ensures, eq-eqb _ _ c.if-row-eq1.true))); entered_value = c.with_params.ensures.entered_value }
 
 pub returns : goal.returns
-unfolding enter_activity if◌then◌else◌
+unfolding enter_activity when◌then◌else◌
 returns c = record { result_value = λ s k. evaluates _ _ _ _ _ _ _ _ c.answer-answer.ensures c.value.ensures c.in-At.is (c.scheduling.ensures.result_value s k ∙ sym (simp (← c.node_of-row.ensures, ne_eqb _ _ c.if-row-eq1.false))); entered_value = c.scheduling.ensures.entered_value }

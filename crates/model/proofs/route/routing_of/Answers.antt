@@ -1,16 +1,16 @@
 use borrow.Author.Tests.{le-leb, lt-leb}
 use Rattle.model.specs.RouteLaws.{routing_of}
-use Rattle.laws.specs.Bool.{if◌then◌else◌}
+use Rattle.laws.specs.Bool.{when◌then◌else◌}
 use Rattle.model.proofs.route.routing_of.Goals as goal
 
 pub returns-in_default : goal.returns-in_default
-unfolding routing_of if◌then◌else◌
+unfolding routing_of when◌then◌else◌
 returns-in_default c = simp (c.in_default.is, ← c.no_note.ensures)
 
 pub returns-then-most-count : goal.returns-then-most-count
-unfolding routing_of if◌then◌else◌
+unfolding routing_of when◌then◌else◌
 returns-then-most-count c = simp (c.in-At.is, ← c.streak_count-count.ensures, le-leb _ _ c.if-most-count.true)
 
 pub returns : goal.returns
-unfolding routing_of if◌then◌else◌
+unfolding routing_of when◌then◌else◌
 returns c = simp (c.in-At.is, ← c.streak_count-count.ensures, lt-leb _ _ c.if-most-count.false, ← c.no_note-2.ensures)

@@ -1,11 +1,11 @@
 use borrow.Author.Tests.{eq-eqb, ne_eqb}
-use Rattle.laws.specs.Bool.{if◌then◌else◌}
+use Rattle.laws.specs.Bool.{when◌then◌else◌}
 use Rattle.model.proofs.route.signal_outcome.Goals as goal
 
 pub returns-then-outcome-eq-NONE : goal.returns-then-outcome-eq-NONE
-unfolding if◌then◌else◌
+unfolding when◌then◌else◌
 returns-then-outcome-eq-NONE c = simp (eq-eqb _ _ c.if-outcome-eq-NONE.true)
 
 pub returns : goal.returns
-unfolding if◌then◌else◌
+unfolding when◌then◌else◌
 returns c = simp (ne_eqb _ _ c.if-outcome-eq-NONE.false)

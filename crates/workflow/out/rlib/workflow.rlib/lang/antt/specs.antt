@@ -1,8 +1,0 @@
--- definitions
-pub mod Code
-pub mod Layout
-pub mod View
-pub mod Lookup
--- laws
-pub mod RowLaws
-pub mod Sound
