@@ -7,15 +7,16 @@ use kernel::{Call, Decision, Limits};
 use model::answer::{Answer, Ending, Note, Order};
 use model::event::{Event, Mapping, Mappings};
 use model::{Position, State, code};
+use std::io;
 use workflow::code::NONE;
 use workflow::layout::NUMBERS;
 
-fn text(bytes: &[u8]) {
-    io::write_all(1, bytes);
+fn text(rt: &impl Print, bytes: &[u8]) -> io::Result<()> {
+    rt.write_all(bytes)
 }
 
-fn number(n: u32) {
-    io::print_decimal(1, n as u64);
+fn number(rt: &impl Print, n: u32) -> io::Result<()> {
+    print!(rt; "{n}")
 }
 
 // The run so far: its record, if there is one.
@@ -95,186 +96,177 @@ fn call_with(event: Event) -> Call {
     }
 }
 
-fn show_status(status: u32) {
+fn show_status(rt: &impl Print, status: u32) -> io::Result<()> {
     if status == code::RUNNING {
-        text(b"running");
-        return;
+        return text(rt, b"running");
     }
     if status == code::WAITING {
-        text(b"waiting");
-        return;
+        return text(rt, b"waiting");
     }
     if status == code::NEEDS_INTERVENTION {
-        text(b"waiting for a person");
-        return;
+        return text(rt, b"waiting for a person");
     }
     if status == code::RUN_COMPLETED {
-        text(b"completed");
-        return;
+        return text(rt, b"completed");
     }
-    text(b"failed");
+    text(rt, b"failed")
 }
 
-fn show_position(position: Position) {
+fn show_position(rt: &impl Print, position: Position) -> io::Result<()> {
     if position.node == NONE {
-        return;
+        return Ok(());
     }
-    text(b" at node ");
-    number(position.node);
-    text(b", visit ");
-    number(position.visit);
+    text(rt, b" at node ")?;
+    number(rt, position.node)?;
+    text(rt, b", visit ")?;
+    number(rt, position.visit)
 }
 
-fn show_order(order: Order) {
+fn show_order(rt: &impl Print, order: Order) -> io::Result<()> {
     match order {
-        Order::Nothing => {}
+        Order::Nothing => Ok(()),
         Order::Schedule(x) => {
-            text(b"  order: action ");
-            number(x.action);
-            text(b" at node ");
-            number(x.node);
-            text(b", visit ");
-            number(x.visit);
-            text(b", attempt ");
-            number(x.attempt);
-            text(b"\n");
+            text(rt, b"  order: action ")?;
+            number(rt, x.action)?;
+            text(rt, b" at node ")?;
+            number(rt, x.node)?;
+            text(rt, b", visit ")?;
+            number(rt, x.visit)?;
+            text(rt, b", attempt ")?;
+            number(rt, x.attempt)?;
+            text(rt, b"\n")
         }
         Order::Retry(x) => {
-            text(b"  order: again at node ");
-            number(x.node);
-            text(b", visit ");
-            number(x.visit);
-            text(b", attempt ");
-            number(x.attempt);
-            text(b"\n");
+            text(rt, b"  order: again at node ")?;
+            number(rt, x.node)?;
+            text(rt, b", visit ")?;
+            number(rt, x.visit)?;
+            text(rt, b", attempt ")?;
+            number(rt, x.attempt)?;
+            text(rt, b"\n")
         }
     }
 }
 
 // A note's code in words (document 01, "Notes").
-fn note_word(note: u32) {
+fn note_word(rt: &impl Print, note: u32) -> io::Result<()> {
     if note == code::NOTE_IGNORED {
-        text(b"ignored, the run has ended");
-        return;
+        return text(rt, b"ignored, the run has ended");
     }
     if note == code::NOTE_STALE {
-        text(b"stale result");
-        return;
+        return text(rt, b"stale result");
     }
     if note == code::NOTE_UNROUTED {
-        text(b"unrouted signal");
-        return;
+        return text(rt, b"unrouted signal");
     }
     if note == code::NOTE_EXHAUSTED {
-        text(b"loop exhausted");
-        return;
+        return text(rt, b"loop exhausted");
     }
-    text(b"number ");
-    number(note);
+    text(rt, b"number ")?;
+    number(rt, note)
 }
 
-fn show_note(note: Note) {
-    text(b"  note: ");
-    note_word(note.code);
-    text(b" (");
-    number(note.a);
-    text(b", ");
-    number(note.b);
-    text(b", ");
-    number(note.c);
-    text(b")\n");
+fn show_note(rt: &impl Print, note: Note) -> io::Result<()> {
+    text(rt, b"  note: ")?;
+    note_word(rt, note.code)?;
+    text(rt, b" (")?;
+    number(rt, note.a)?;
+    text(rt, b", ")?;
+    number(rt, note.b)?;
+    text(rt, b", ")?;
+    number(rt, note.c)?;
+    text(rt, b")\n")
 }
 
-fn ending_word(ending: u32) {
+fn ending_word(rt: &impl Print, ending: u32) -> io::Result<()> {
     if ending == code::END_ROUTED {
-        text(b"routed\n");
-        return;
+        return text(rt, b"routed\n");
     }
     if ending == code::END_UNROUTED {
-        text(b"unrouted\n");
-        return;
+        return text(rt, b"unrouted\n");
     }
     if ending == code::END_OVERFLOW {
-        text(b"overflow\n");
-        return;
+        return text(rt, b"overflow\n");
     }
-    text(b"ignored\n");
+    text(rt, b"ignored\n")
 }
 
-fn show_ending(ending: Ending) {
-    text(b"  signal ");
-    io::print_decimal(1, ending.sequence);
-    text(b": ");
-    ending_word(ending.ending);
+fn show_ending(rt: &impl Print, ending: Ending) -> io::Result<()> {
+    text(rt, b"  signal ")?;
+    print!(rt; "{}", ending.sequence)?;
+    text(rt, b": ")?;
+    ending_word(rt, ending.ending)
 }
 
-fn show_notes(notes: [Note; 65], count: u32) {
+fn show_notes(rt: &impl Print, notes: [Note; 65], count: u32) -> io::Result<()> {
     for i in 0..65u32 {
         if i < count {
-            show_note(notes[i as usize]);
+            show_note(rt, notes[i as usize])?;
         }
     }
+    Ok(())
 }
 
-fn show_endings(endings: [Ending; 65], count: u32) {
+fn show_endings(rt: &impl Print, endings: [Ending; 65], count: u32) -> io::Result<()> {
     for i in 0..65u32 {
         if i < count {
-            show_ending(endings[i as usize]);
+            show_ending(rt, endings[i as usize])?;
         }
     }
+    Ok(())
 }
 
-fn show_next(decision: Decision, order: Order, microsteps: u32) {
+fn show_next(rt: &impl Print, decision: Decision, order: Order, microsteps: u32) -> io::Result<()> {
     let state = decision.state;
     let position = state.position;
-    text(b": ");
-    show_status(state.status);
-    show_position(position);
-    text(b"; microsteps ");
-    number(microsteps);
-    text(b"\n");
-    show_order(order);
+    text(rt, b": ")?;
+    show_status(rt, state.status)?;
+    show_position(rt, position)?;
+    text(rt, b"; microsteps ")?;
+    number(rt, microsteps)?;
+    text(rt, b"\n")?;
+    show_order(rt, order)?;
     let notes = decision.notes;
-    show_notes(notes, decision.note_count);
+    show_notes(rt, notes, decision.note_count)?;
     let endings = decision.endings;
-    show_endings(endings, decision.ending_count);
+    show_endings(rt, endings, decision.ending_count)
 }
 
 // One call, shown. The record of an accepted call stands from then on; any other leaves the run as it was.
-fn go(w: &[u32; NUMBERS], run: Run, what: &[u8], event: Event) -> Run {
-    text(what);
+fn go(rt: &impl Print, w: &[u32; NUMBERS], run: Run, what: &[u8], event: Event) -> io::Result<Run> {
+    text(rt, what)?;
     let state = run.state;
     let decision = kernel::transition(w, run.has_record, state, call_with(event));
     let answer = decision.answer;
     match answer {
         Answer::Next { order, microsteps } => {
-            show_next(decision, order, microsteps);
+            show_next(rt, decision, order, microsteps)?;
             let state = decision.state;
-            Run {
+            Ok(Run {
                 state,
                 calls: event.sequence,
                 has_record: true,
-            }
+            })
         }
         Answer::Wants {
             node,
             field,
             from: _,
         } => {
-            text(b": wants field ");
-            number(field);
-            text(b" of node ");
-            number(node);
-            text(b"\n");
-            run
+            text(rt, b": wants field ")?;
+            number(rt, field)?;
+            text(rt, b" of node ")?;
+            number(rt, node)?;
+            text(rt, b"\n")?;
+            Ok(run)
         }
         Answer::Refused { number: n, item } => {
-            text(b": refused with ");
-            number(n);
-            text(b", item ");
-            number(item);
-            text(b"\n");
-            run
+            text(rt, b": refused with ")?;
+            number(rt, n)?;
+            text(rt, b", item ")?;
+            number(rt, item)?;
+            text(rt, b"\n")?;
+            Ok(run)
         }
     }
 }
@@ -283,8 +275,9 @@ fn next_number(calls: u64) -> u64 {
     std::num::wrapping_add_u64(calls, 1)
 }
 
-fn start(w: &[u32; NUMBERS], run: Run) -> Run {
+fn start(rt: &impl Print, w: &[u32; NUMBERS], run: Run) -> io::Result<Run> {
     go(
+        rt,
         w,
         run,
         b"start",
@@ -293,36 +286,49 @@ fn start(w: &[u32; NUMBERS], run: Run) -> Run {
 }
 
 // The panel's shot and its correction succeeded.
-fn success(w: &[u32; NUMBERS], run: Run, what: &[u8], visit: u32) -> Run {
+fn success(
+    rt: &impl Print,
+    w: &[u32; NUMBERS],
+    run: Run,
+    what: &[u8],
+    visit: u32,
+) -> io::Result<Run> {
     let mut e = event(code::ACTIVITY_RESULT, next_number(run.calls));
     e.visit = visit;
     e.attempt = 1;
     e.status = code::SUCCESS;
-    go(w, run, what, e)
+    go(rt, w, run, what, e)
 }
 
 // The verdict came: signal 5 with an outcome.
-fn verdict(w: &[u32; NUMBERS], run: Run, what: &[u8], outcome: u32) -> Run {
+fn verdict(
+    rt: &impl Print,
+    w: &[u32; NUMBERS],
+    run: Run,
+    what: &[u8],
+    outcome: u32,
+) -> io::Result<Run> {
     let mut e = event(code::SIGNAL_RECEIVED, next_number(run.calls));
     e.signal = 5;
     e.outcome = outcome;
-    go(w, run, what, e)
+    go(rt, w, run, what, e)
 }
 
-fn main() {
+fn main(rt: HostRuntime) -> io::Result<()> {
     let w = joint_a::sheet(1);
-    text(b"JOINT A, SHOT AGAIN UNTIL ITS LOOP IS EXHAUSTED\n");
+    text(&rt, b"JOINT A, SHOT AGAIN UNTIL ITS LOOP IS EXHAUSTED\n")?;
     let mut run = begin();
-    run = start(&w, run);
-    run = success(&w, run, b"success", 1);
-    run = verdict(&w, run, b"verdict: shoot again", 4);
-    run = success(&w, run, b"the first success, a second time", 1);
-    run = success(&w, run, b"success", 2);
-    run = verdict(&w, run, b"verdict: shoot again", 4);
-    run = verdict(&w, run, b"verdict: accepted", NONE);
-    text(b"JOINT A, ACCEPTED\n");
+    run = start(&rt, &w, run)?;
+    run = success(&rt, &w, run, b"success", 1)?;
+    run = verdict(&rt, &w, run, b"verdict: shoot again", 4)?;
+    run = success(&rt, &w, run, b"the first success, a second time", 1)?;
+    run = success(&rt, &w, run, b"success", 2)?;
+    run = verdict(&rt, &w, run, b"verdict: shoot again", 4)?;
+    run = verdict(&rt, &w, run, b"verdict: accepted", NONE)?;
+    text(&rt, b"JOINT A, ACCEPTED\n")?;
     run = begin();
-    run = start(&w, run);
-    run = success(&w, run, b"success", 1);
-    run = verdict(&w, run, b"verdict: accepted", NONE);
+    run = start(&rt, &w, run)?;
+    run = success(&rt, &w, run, b"success", 1)?;
+    run = verdict(&rt, &w, run, b"verdict: accepted", NONE)?;
+    Ok(())
 }

@@ -4,6 +4,8 @@
 ghost use Rattle.std.specs.Prelude.{◌≤◌};
 
 use host::layout;
+use std::io;
+use std::io::{BufWriter, Read, Write};
 
 const ANSWER: usize = layout::ANSWER;
 
@@ -16,13 +18,12 @@ const ENOUGH: usize = 65536;
 // No run has more: a number has at most ten.
 const RUN_BYTES: usize = 10 * layout::RECORD;
 
-fn text(bytes: &[u8]) {
-    io::write_all(1, bytes);
+fn text<W: Write>(to: &mut W, bytes: &[u8]) -> io::Result<()> {
+    to.write_all(bytes)
 }
 
-fn number(n: u64) {
-    text(b" ");
-    io::print_decimal(1, n);
+fn number<W: Write>(to: &mut W, n: u64) -> io::Result<()> {
+    write!(to, " {n}")
 }
 
 fn at(xs: &[u64; ANSWER], i: usize) -> u64 {
@@ -33,50 +34,70 @@ fn at(xs: &[u64; ANSWER], i: usize) -> u64 {
 }
 
 // The numbers of a row, behind what was printed of its line.
-fn numbers(xs: &[u64; ANSWER], first: usize, width: usize)
+fn numbers<W: Write>(to: &mut W, xs: &[u64; ANSWER], first: usize, width: usize) -> io::Result<()>
     requires { (first ≤ 65536) × (width ≤ 65536) }
 {
-    let mut i: usize = 0;
-    while i < width {
-        number(at(xs, first + i));
-        i += 1;
+    for i in 0..width {
+        number(to, at(xs, first + i))?;
     }
-    text(b"\n");
+    text(to, b"\n")
 }
 
-fn line(word: &[u8], xs: &[u64; ANSWER], first: usize, width: usize)
+fn line<W: Write>(
+    to: &mut W,
+    word: &[u8],
+    xs: &[u64; ANSWER],
+    first: usize,
+    width: usize,
+) -> io::Result<()>
     requires { (first ≤ 65536) × (width ≤ 65536) }
 {
-    text(word);
-    numbers(xs, first, width);
+    text(to, word)?;
+    numbers(to, xs, first, width)
 }
 
 // A line for each row, as many as a count says. No rows are more than the notes.
-fn rows(word: &[u8], xs: &[u64; ANSWER], first: usize, width: usize, count: u64)
+fn rows<W: Write>(
+    to: &mut W,
+    word: &[u8],
+    xs: &[u64; ANSWER],
+    first: usize,
+    width: usize,
+    count: u64,
+) -> io::Result<()>
     requires { (first ≤ 4096) × (width ≤ 8) }
 {
     let mut place = first;
     for i in 0..layout::NOTES {
         if (i as u64) < count {
-            line(word, xs, place, width);
+            line(to, word, xs, place, width)?;
         }
         place += width;
     }
+    Ok(())
 }
 
 // A line for each node whose row has a lead that isn't 0: the node, then the row.
-fn nodes(word: &[u8], xs: &[u64; ANSWER], first: usize, width: usize, lead: usize)
+fn nodes<W: Write>(
+    to: &mut W,
+    word: &[u8],
+    xs: &[u64; ANSWER],
+    first: usize,
+    width: usize,
+    lead: usize,
+) -> io::Result<()>
     requires { (first ≤ 4096) × (width ≤ 8) × (lead ≤ 8) }
 {
     let mut place = first;
     for i in 0..layout::NODES {
         if at(xs, place + lead) != 0 {
-            text(word);
-            number(i as u64);
-            numbers(xs, place, width);
+            text(to, word)?;
+            number(to, i as u64)?;
+            numbers(to, xs, place, width)?;
         }
         place += width;
     }
+    Ok(())
 }
 
 fn digit(n: u8) -> u8 {
@@ -90,137 +111,148 @@ fn digit(n: u8) -> u8 {
 }
 
 // The first of some bytes, two digits each, and the end of the line.
-fn digits(bytes: &[u8; RUN_BYTES], size: usize)
+fn digits<W: Write>(to: &mut W, bytes: &[u8; RUN_BYTES], size: usize) -> io::Result<()>
     requires { size ≤ 9180 }
 {
     let mut out = [b'\n'; 2 * RUN_BYTES + 1];
-    let mut i: usize = 0;
-    while i < size {
+    for i in 0..size {
         out[2 * i] = digit(bytes[i] / 16);
         out[2 * i + 1] = digit(bytes[i] % 16);
-        i += 1;
     }
-    text(&out[..2 * size + 1]);
+    text(to, &out[..2 * size + 1])
 }
 
 // The run's bytes.
-fn hexadecimal(xs: &[u64; ANSWER]) {
+fn hexadecimal<W: Write>(to: &mut W, xs: &[u64; ANSWER]) -> io::Result<()> {
     let mut bytes = [0u8; RUN_BYTES];
     let size = in_bytes::run::run_size(xs, RUN);
     if size <= RUN_BYTES {
         in_bytes::run::write_run(&mut bytes, 0, xs, RUN);
-        digits(&bytes, size);
+        digits(to, &bytes, size)?;
     }
+    Ok(())
 }
 
-fn run(xs: &[u64; ANSWER]) {
-    line(b"status", xs, RUN + layout::RECORD_STATUS, 1);
-    line(b"input", xs, RUN + layout::RECORD_INPUT, 1);
-    line(b"activations", xs, RUN + layout::RECORD_ACTIVATIONS, 1);
-    line(b"sequence", xs, RUN + layout::RECORD_LAST_SEQUENCE, 1);
-    line(b"time", xs, RUN + layout::RECORD_LAST_ACCEPTED_AT, 1);
-    line(b"position", xs, RUN + layout::RECORD_POSITION_NODE, 2);
-    line(b"invocation", xs, RUN + layout::RECORD_PHASE, 6);
-    line(b"kept", xs, RUN + layout::RECORD_ERROR, layout::ERROR_WIDTH);
+fn run<W: Write>(to: &mut W, xs: &[u64; ANSWER]) -> io::Result<()> {
+    line(to, b"status", xs, RUN + layout::RECORD_STATUS, 1)?;
+    line(to, b"input", xs, RUN + layout::RECORD_INPUT, 1)?;
+    line(to, b"activations", xs, RUN + layout::RECORD_ACTIVATIONS, 1)?;
+    line(to, b"sequence", xs, RUN + layout::RECORD_LAST_SEQUENCE, 1)?;
+    line(to, b"time", xs, RUN + layout::RECORD_LAST_ACCEPTED_AT, 1)?;
+    line(to, b"position", xs, RUN + layout::RECORD_POSITION_NODE, 2)?;
+    line(to, b"invocation", xs, RUN + layout::RECORD_PHASE, 6)?;
     line(
+        to,
+        b"kept",
+        xs,
+        RUN + layout::RECORD_ERROR,
+        layout::ERROR_WIDTH,
+    )?;
+    line(
+        to,
         b"result",
         xs,
         RUN + layout::RECORD_RESULT,
         layout::OUTPUT_WIDTH,
-    );
+    )?;
     rows(
+        to,
         b"signal",
         xs,
         RUN + layout::RECORD_SIGNALS,
         layout::SIGNAL_WIDTH,
         at(xs, RUN + layout::RECORD_STORED),
-    );
-    nodes(b"visits", xs, RUN + layout::RECORD_VISITS, 1, 0);
+    )?;
+    nodes(to, b"visits", xs, RUN + layout::RECORD_VISITS, 1, 0)?;
     nodes(
+        to,
         b"streak",
         xs,
         RUN + layout::RECORD_STREAKS,
         layout::STREAK_WIDTH,
         1,
-    );
+    )?;
     nodes(
+        to,
         b"output",
         xs,
         RUN + layout::RECORD_RESULTS,
         layout::RESULT_WIDTH,
         2,
-    );
+    )
 }
 
-fn order(xs: &[u64; ANSWER]) {
+fn order<W: Write>(to: &mut W, xs: &[u64; ANSWER]) -> io::Result<()> {
     let kind = at(xs, layout::ANSWER_ORDER);
     if kind == 1 {
-        line(b"schedule", xs, layout::ANSWER_ORDER_NODE, 8);
-        return;
+        return line(to, b"schedule", xs, layout::ANSWER_ORDER_NODE, 8);
     }
     if kind == 2 {
-        text(b"retry");
-        number(at(xs, layout::ANSWER_ORDER_NODE));
-        number(at(xs, layout::ANSWER_ORDER_VISIT));
-        number(at(xs, layout::ANSWER_ORDER_ATTEMPT));
-        number(at(xs, layout::ANSWER_ORDER_NOT_BEFORE));
-        text(b"\n");
+        text(to, b"retry")?;
+        number(to, at(xs, layout::ANSWER_ORDER_NODE))?;
+        number(to, at(xs, layout::ANSWER_ORDER_VISIT))?;
+        number(to, at(xs, layout::ANSWER_ORDER_ATTEMPT))?;
+        number(to, at(xs, layout::ANSWER_ORDER_NOT_BEFORE))?;
+        text(to, b"\n")?;
     }
+    Ok(())
 }
 
-fn next(xs: &[u64; ANSWER]) {
-    line(b"next", xs, layout::ANSWER_MICROSTEPS, 1);
-    order(xs);
+fn next<W: Write>(to: &mut W, xs: &[u64; ANSWER]) -> io::Result<()> {
+    line(to, b"next", xs, layout::ANSWER_MICROSTEPS, 1)?;
+    order(to, xs)?;
     rows(
+        to,
         b"note",
         xs,
         layout::ANSWER_NOTES,
         layout::NOTE_WIDTH,
         at(xs, layout::ANSWER_NOTED),
-    );
+    )?;
     rows(
+        to,
         b"ending",
         xs,
         layout::ANSWER_ENDINGS,
         layout::ENDING_WIDTH,
         at(xs, layout::ANSWER_ENDED),
-    );
-    run(xs);
-    text(b"run ");
-    hexadecimal(xs);
+    )?;
+    run(to, xs)?;
+    text(to, b"run ")?;
+    hexadecimal(to, xs)
 }
 
-fn want(xs: &[u64; ANSWER]) {
-    line(b"want", xs, layout::ANSWER_WANT_NODE, 3);
-    run(xs);
-    text(b"moment ");
-    hexadecimal(xs);
+fn want<W: Write>(to: &mut W, xs: &[u64; ANSWER]) -> io::Result<()> {
+    line(to, b"want", xs, layout::ANSWER_WANT_NODE, 3)?;
+    run(to, xs)?;
+    text(to, b"moment ")?;
+    hexadecimal(to, xs)
 }
 
-fn show(xs: &[u64; ANSWER]) {
+fn show<W: Write>(to: &mut W, xs: &[u64; ANSWER]) -> io::Result<()> {
     let kind = at(xs, layout::ANSWER_KIND);
     if kind == 1 {
-        next(xs);
-        return;
+        return next(to, xs);
     }
     if kind == 2 {
-        want(xs);
-        return;
+        return want(to, xs);
     }
-    line(b"refused", xs, layout::ANSWER_REFUSAL_NUMBER, 2);
+    line(to, b"refused", xs, layout::ANSWER_REFUSAL_NUMBER, 2)
 }
 
-fn main() {
-    let mut buffer = [0u8; ENOUGH];
-    let size = io::read_full(0, &mut buffer);
+fn main(rt: HostRuntime) -> io::Result<()> {
+    let mut buffer = Vec::new(rt.alloc());
+    let size = rt.stdin().take(ENOUGH as u64).read_to_end(&mut buffer)?;
     let mut answer = [0u64; ANSWER];
     let mut read = false;
     if size < ENOUGH {
-        read = in_bytes::decide(&buffer[..size], &mut answer);
+        read = in_bytes::decide(buffer.as_slice(), &mut answer);
     }
+    let mut out = BufWriter::new(rt.alloc(), rt.stdout())?;
     if read {
-        show(&answer);
-        return;
+        show(&mut out, &answer)?;
+    } else {
+        text(&mut out, b"refused 31 255\n")?;
     }
-    text(b"refused 31 255\n");
+    out.flush()
 }

@@ -40,10 +40,8 @@ fn numbers(out: &mut [u8], at: usize, xs: &[u64], first: usize, end: usize) -> u
         return at;
     }
     let mut place = at;
-    let mut i = first;
-    while i < end {
+    for i in first..end {
         place = number(out, place, xs[i]);
-        i += 1;
     }
     place
 }
@@ -57,21 +55,17 @@ fn copied(out: &mut [u8], at: usize, from: &[u8], size: u64) -> usize {
         return at;
     }
     let mut place = at;
-    let mut i: usize = 0;
-    while i < end {
+    for i in 0..end {
         place = byte(out, place, from[i]);
-        i += 1;
     }
     place
 }
 
 fn same(a: &[u8; ENOUGH], b: &[u8; ENOUGH]) -> bool {
-    let mut i: usize = 0;
-    while i < ENOUGH {
+    for i in 0..ENOUGH {
         if a[i] != b[i] {
             return false;
         }
-        i += 1;
     }
     true
 }
@@ -148,10 +142,8 @@ fn record_of(xs: &[u64; ANSWER]) -> [u64; RECORD]
     ensures { length result ≡ 918 }
 {
     let mut record = [0u64; RECORD];
-    let mut i: usize = 0;
-    while i < RECORD {
+    for i in 0..RECORD {
         record[i] = xs[layout::ANSWER_RECORD + i];
-        i += 1;
     }
     record
 }

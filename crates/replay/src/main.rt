@@ -2,8 +2,10 @@
 // through the boundary, and all the numbers of its answer are compared with the recorded ones.
 #![tactic(auto)]
 
-
 mod coded;
+
+use std::io;
+use std::io::Read;
 
 // What the reader of the lines is at: the number it is in, and the place in the array that it reads.
 #[derive(Clone, Copy)]
@@ -99,12 +101,10 @@ fn store(
 }
 
 fn same(a: &[u64; ANSWER], b: &[u64; ANSWER]) -> bool {
-    let mut i: usize = 0;
-    while i < ANSWER {
+    for i in 0..ANSWER {
         if a[i] != b[i] {
             return false;
         }
-        i += 1;
     }
     true
 }
@@ -237,40 +237,39 @@ fn bytes(
     answer: &mut [u64; ANSWER],
 ) -> Reader {
     let mut r = start;
-    let mut i: usize = 0;
-    while i < text.len() {
+    for i in 0..text.len() {
         let b = text[i];
         r = byte(r, b, sheet, call, record, answer);
-        i += 1;
     }
     r
 }
 
 // Reads once; the reader is closed where nothing came.
-fn some(
+fn some<I: Read>(
+    input: &mut I,
     r: Reader,
     sheet: &mut [u32; SHEET],
     call: &mut [u64; CALL],
     record: &mut [u64; RECORD],
     answer: &mut [u64; ANSWER],
-) -> Reader {
-    let mut buffer = io::large_buffer();
-    let got = libc::read(0, &mut buffer);
-    if got <= 0 {
+) -> io::Result<Reader> {
+    let mut buffer = [0u8; 65536];
+    let n = input.read(&mut buffer)?;
+    if n == 0 {
         let mut last = r;
         last.open = false;
-        return last;
+        return Ok(last);
     }
-    let n = io::count(got, &buffer);
-    bytes(r, &buffer[..n], sheet, call, record, answer)
+    Ok(bytes(r, &buffer[..n], sheet, call, record, answer))
 }
 
-fn say(n: u64, what: &[u8]) {
-    io::print_decimal(1, n);
-    io::write_all(1, what);
+fn say(rt: &impl Print, n: u64, what: &[u8]) -> io::Result<()> {
+    print!(rt; "{n}")?;
+    rt.write_all(what)
 }
 
-fn main() {
+fn main(rt: HostRuntime) -> io::Result<()> {
+    let mut input = rt.stdin();
     let mut sheet = [0u32; SHEET];
     let mut call = [0u64; CALL];
     let mut record = [0u64; RECORD];
@@ -292,19 +291,24 @@ fn main() {
         in_bytes: 0,
     };
     // A proved loop has to end: no input is as long as this.
-    let mut turns: u64 = 1_000_000;
-    while 0 < turns {
-        r = some(r, &mut sheet, &mut call, &mut record, &mut answer);
-        turns -= 1;
+    for _ in 0..1_000_000u32 {
+        r = some(
+            &mut input,
+            r,
+            &mut sheet,
+            &mut call,
+            &mut record,
+            &mut answer,
+        )?;
         if !r.open {
-            turns = 0;
+            break;
         }
     }
-    say(r.calls, b" calls: ");
-    say(r.next, b" next records, ");
-    say(r.wants, b" wants, ");
-    say(r.refused, b" refusals; ");
-    say(r.agree, b" agree\n");
-    say(r.written, b" of them in bytes; ");
-    say(r.in_bytes, b" agree\n");
+    say(&rt, r.calls, b" calls: ")?;
+    say(&rt, r.next, b" next records, ")?;
+    say(&rt, r.wants, b" wants, ")?;
+    say(&rt, r.refused, b" refusals; ")?;
+    say(&rt, r.agree, b" agree\n")?;
+    say(&rt, r.written, b" of them in bytes; ")?;
+    say(&rt, r.in_bytes, b" agree\n")
 }

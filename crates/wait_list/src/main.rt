@@ -4,6 +4,8 @@
 ghost use Rattle.std.specs.Prelude.{◌≡◌, ◌^◌, ◌<◌};
 ghost use Rattle.waits.specs.Waits.{step, waits};
 
+use std::io;
+
 // The wait after a wait.
 fn next_wait(x: u64) -> u64
     requires { x < 2 ^ 32 }
@@ -26,18 +28,16 @@ fn worked_out() -> [u64; 256]
 }
 
 // The line of an entry.
-fn show(n: usize, wait: u64) {
-    io::print_decimal(1, n as u64);
-    io::write_all(1, b" ");
-    io::print_decimal(1, wait);
-    io::write_all(1, b"\n");
+fn show(rt: &impl Print, n: usize, wait: u64) -> io::Result<()> {
+    println!(rt; "{n} {wait}")
 }
 
-fn main() {
+fn main(rt: HostRuntime) -> io::Result<()> {
     let list = worked_out();
     let mut n: usize = 0;
     while n < 256 {
-        show(n, list[n]);
+        show(&rt, n, list[n])?;
         n += 1;
     }
+    Ok(())
 }

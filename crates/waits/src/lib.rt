@@ -28,6 +28,7 @@ const WAITS: [u64; 256] = [
 ];
 
 // The entry for an attempt.
+#[tactic(auto, unfolding(crate::specs::Waits::entry))]
 fn entry_of(attempt: u32) -> usize
     ensures { result ≡ entry attempt }
 {

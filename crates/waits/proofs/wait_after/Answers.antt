@@ -1,16 +1,10 @@
 use mathlib.Core.Path.{refl}
-use mathlib.Core.List.{List}
-use Prim.Native.Nat.{ℕ}
 use native.Mathlib.Omega.{arith}
 use Rattle.laws.specs.Bool.{◌and◌}
 use Rattle.waits.specs.Waits.{step}
+use Rattle.waits.specs.declared.TheConstants.{WAITS}
 use Rattle.waits.specs.WaitsLaws.{stepped, carried, entry_below}
-use Rattle.waits.proofs.wait_after.Lts as lts
 use Rattle.waits.proofs.wait_after.Goals as goal
-
--- the constant, as the code has it
-abbrev table : goal.After-entry_of → List ℕ
-table c = (lts.m2 _ _ _ c.args c.blocks).1.1.0
 
 pub offset_bounds-entry_of : goal.offset_bounds-entry_of
 offset_bounds-entry_of c = omega (arith, c.entry_of.ensures, entry_below c.args.attempt)
@@ -20,4 +14,4 @@ bounds-entry_of c = omega (arith, c.entry_of.ensures, entry_below c.args.attempt
 
 pub returns : goal.returns
 unfolding stepped step ◌and◌
-returns c = rw c.entry_of.ensures (carried (table c) refl _ (entry_below c.args.attempt))
+returns c = rw c.entry_of.ensures (carried WAITS refl _ (entry_below c.args.attempt))
