@@ -6,7 +6,7 @@ use Rattle.std.proofs.lemmas.Bool.{false≢true, eqb-false}
 use mathlib.Core.List.{List, [], ◌∷◌, ◌++◌}
 use Prim.Native.Nat.{ℕ, zero, suc, ◌+◌, ◌-◌, ◌*◌, ◌≤◌, ◌<◌}
 use native.Mathlib.Omega.{arith}
-use Rattle.std.proofs.Math.ListN.{length, length-append, length-take}
+use Rattle.std.proofs.Math.ListN.{length, length-append}
 use Rattle.laws.specs.Bool.{when◌then◌else◌, if_true, if_false, split, either}
 use Rattle.laws.specs.Settle.{settle, Settling, settle_rests, settled, settle_next}
 use Rattle.laws.specs.First.{first}
@@ -194,7 +194,7 @@ module _ (more : List Ending) (n : ℕ) where
 pub all_left : (s : State) → IsSlotted s → {left : List Ending} → left ≡ padded store no_ending (left_over (stored s)) → take s.signal_count left ≡ left_over (stored s)
 all_left s z e = ap (take s.signal_count) e ∙ take_padded no_ending store s.signal_count (left_over (stored s)) (length_left (stored s) ∙ stored_length s z)
 
-listed_left : {endings : List Ending} {k : ℕ} {es : List Ending} (s : State) → k + length (stored s) ≤ 65 → Listing no_ending 65 endings k es
+pub listed_left : {endings : List Ending} {k : ℕ} {es : List Ending} (s : State) → k + length (stored s) ≤ 65 → Listing no_ending 65 endings k es
     → Listing no_ending 65 (splice endings k (left_over (stored s))) (k + length (stored s)) (es ++ left_over (stored s))
 listed_left {endings} {k} {es} s h l =
     let left = left_over (stored s) in
@@ -240,7 +240,7 @@ module _ (f : Workflow) where
 settle_rested : {A : Type 0} {go : A → Bool} {step : A → A} {w : A} {k : ℕ} {x : A} → Settling go step w k x → go x ≡ false → (j : ℕ) → Settling go step w j x
 settle_rested {go = go} {step = step} {x = x} inv h j = record { left = settle_rests go step j x h ∙ settled inv refl h }
 
-none_stored : (s : State) (a : ℕ) → s.signal_count ≡ 0 → first_signal s a ≡ Nothing
+pub none_stored : (s : State) (a : ℕ) → s.signal_count ≡ 0 → first_signal s a ≡ Nothing
 unfolding first_signal stored_as first
 none_stored s a h = rw h
 
@@ -249,10 +249,10 @@ some_stored h z = omega (arith, eqb-false h 0 z)
 
 -- THE LOOP, of one call on one sheet.
 module _ (f : Workflow) (l : Limits) (e : Event) (m : Mappings) (v₀ : Round) where
-  abbrev limit : ℕ
+  abbrev pub limit : ℕ
   limit = l.microsteps
 
-  abbrev machine : State → Next → Order → List Note → List Ending → (microsteps operations : ℕ) → Machine
+  abbrev pub machine : State → Next → Order → List Note → List Ending → (microsteps operations : ℕ) → Machine
   machine t n o ns es k q = record { state = t; next = n; order = o; notes = ns; endings = es; microsteps = k; operations = q }
 
   abbrev read_by : (read : ℕ) → ℕ
@@ -270,7 +270,7 @@ module _ (f : Workflow) (l : Limits) (e : Event) (m : Mappings) (v₀ : Round) w
   unfolding driven
   end_is s h = rw h
 
-  abbrev Runs : (left : ℕ) → Machine → Type 0
+  abbrev pub Runs : (left : ℕ) → Machine → Type 0
   Runs left x = Settling (is_moving f limit e m) (advance f limit e m) at_end left x
 
   -- The first move leaves room for what follows, and is no microstep.
@@ -542,37 +542,5 @@ module _ (f : Workflow) (l : Limits) (e : Event) (m : Mappings) (v₀ : Round) w
             few = omega (arith, left_less, d.few);
           }
 
-    -- No move follows.
-    resting : (t : State) (o : Order) → k + t.signal_count ≤ 65 → decide notes endings n k t (rest_answer o l j q) ≡ decision_of (finish_by Rest l (machine t Rest o d.ns d.es j q))
-    unfolding decide rest_answer finish_by decision_of closed stored_as when◌then◌else◌
-    resting t o h =
-        split (ltb l.commands (orders o)) (λ a. rw a)
-        (λ a. split (ltb l.operations q) (λ b. rw (a, b))
-        (λ b. split (leaves_over t.status t.signal_count)
-        (λ c. let e = listed_left t (omega (arith, length-take t.signal_count t.signals)) d.endings_are in rw (a, b, c, d.notes_are.is, d.notes_are.count, e.is, e.count))
-        (λ c. rw (a, b, c, d.notes_are.is, d.notes_are.count, d.endings_are.is, d.endings_are.count))))
-
-    -- With nothing stored the definition makes one more move, which says nothing.
-    waits_on : (t : State) (o : Order) → k + t.signal_count ≤ 65 → t.signal_count ≡ 0 → Runs (131 - j) (machine t Consume o d.ns d.es j q) → Bounds Consume (131 - j) (machine t Consume o d.ns d.es j q)
-        → decide notes endings n k t (rest_answer Order.Nothing l j q) ≡ decision_of (finish l at_end)
-    unfolding finish_by advance_by consume_by operations_of
-    waits_on t o h g r b =
-        let y : machine t Rest Order.Nothing d.ns d.es j q ≡ advance f limit e m (machine t Consume o d.ns d.es j q) =
-        rw (none_stored t (node_of f t.position.node).signal g, none_more d.ns no_note refl, none_more d.es no_ending refl) (ap (machine t Rest Order.Nothing d.ns d.es j) (omega arith)) in
-        resting t Order.Nothing h ∙ ap (λ (u : Machine). decision_of (finish l u)) (settled (settle_next r (omega (arith, b.enough)) refl refl y) refl refl)
-
-    ends_by : (t : State) (y : Next) (o : Order) → k + t.signal_count ≤ 65 → is_over y t.signal_count ≡ true → Runs (131 - j) (machine t y o d.ns d.es j q)
-        → Bounds y (131 - j) (machine t y o d.ns d.es j q) → decide notes endings n k t (answer_of y o l j q) ≡ decision_of (finish l at_end)
-    unfolding is_over answer_of finish_by decide
-    ends_by t Rest o w h r b = resting t o w ∙ ap (λ (u : Machine). decision_of (finish l u)) (settled r refl refl)
-    ends_by t (Enter i c) o w h r b = absurd (false≢true h)
-    ends_by t Take o w h r b = absurd (false≢true h)
-    ends_by t Consume o w h r b = waits_on t o w (eqb-true _ _ h) r b
-    ends_by t (Wants i g c) o w h r b = ap (λ (u : Machine). decision_of (finish l u)) (settled r refl refl)
-    ends_by t (Refuse i) o w h r b = ap (λ (u : Machine). decision_of (finish l u)) (settled r refl refl)
-
     pub few_left : k + v.state.signal_count ≤ 65
     few_left = omega (arith, d.endings_are.count, d.going.bounds.few_endings)
-
-    pub driving_ends : is_over v.next v.state.signal_count ≡ true → decide notes endings n k v.state (answer_of v.next v.order l j q) ≡ decision_of (finish l at_end)
-    driving_ends h = ends_by v.state v.next v.order few_left h d.going.runs d.going.bounds

@@ -2,7 +2,8 @@ use native.Mathlib.Omega.{arith}
 use Prim.Native.Nat.{◌+◌}
 use mathlib.Core.Path.{sym, ◌∙◌}
 use Rattle.workflow.specs.View.{workflow}
-use Rattle.kernel.specs.DriveLaws.{Listed, driving_first, adding_note, adding_ending, added_room, added_one, added_none, listed, driving_next, left_less, few_left, driving_ends}
+use Rattle.kernel.specs.DriveLaws.{Listed, driving_first, adding_note, adding_ending, added_room, added_one, added_none, listed, driving_next, left_less, few_left}
+use Rattle.kernel.proofs.DriveEnd.{driving_ends}
 use Rattle.kernel.proofs.drive.run.Goals as goal
 use Rattle.kernel.proofs.drive.run.Goals.{then-note-gt0, else-note-gt0, then-ending-gt0, else-ending-gt0}
 

@@ -1,0 +1,2 @@
+-- the end of the drive
+pub mod DriveEnd
