@@ -6,7 +6,7 @@ use Rattle.std.proofs.Math.Bool.{true, false}
 use Rattle.std.proofs.lemmas.Bool.{false≢true}
 use Prim.Native.Nat.{ℕ, ◌+◌, ◌-◌, ◌≤◌, ◌<◌, min}
 use native.Mathlib.Omega.{arith}
-use borrow.Author.Tests.{ltb-true, ltb-false, lt-ltb, le-ltb, lt-leb, le-leb}
+use borrow.Author.Tests.{ltb-true, ltb-false, lt-ltb, le-ltb, le-leb}
 use Rattle.std.proofs.Math.Dec.{leb}
 use Rattle.laws.specs.Bool.{when◌then◌else◌, if_true, split}
 use Rattle.laws.specs.First.{first}
@@ -17,7 +17,7 @@ use Rattle.model.specs.Code.{store, largest, running, scheduled, invariant, no_r
 use Rattle.workflow.specs.declared.Found.{Found}
 use Rattle.workflow.specs.declared.Found.TheVariants.{At, Nothing}
 use Rattle.workflow.specs.View.{Workflow}
-use Rattle.workflow.specs.Lookup.{node_slots, node_of, route_of, limit_of}
+use Rattle.workflow.specs.Lookup.{node_slots, node_of, route_of}
 use Rattle.model.specs.declared.Output.{Output}
 use Rattle.model.specs.declared.BufferedSignal.{BufferedSignal}
 use Rattle.model.specs.declared.Position.{Position}
@@ -37,13 +37,13 @@ use Rattle.model.specs.declared.moves.Move.{Move}
 use Rattle.model.specs.Record.{no_signal, no_invocation, placed, set_signals, no_streak, no_node_result, streak_of, with_streak, with_result}
 use Rattle.model.specs.StoreLaws.{signal_here}
 use Rattle.model.specs.Store.{listed, first_signal, signal_at, removed}
-use Rattle.model.specs.Step.{planned, phased, retry, signal_outcome, streak_count, no_note, no_ending, still, noting, ending, follow_to, route_limited, route, signal_route, take_by, take}
+use Rattle.model.specs.Step.{planned, phased, retry, signal_outcome, streak_count, no_note, no_ending, still, ending, follow_to, route, signal_route, take_by, take}
 
 -- The outcome that is followed, the next streak and the note.
-abbrev exhausts : (node outcome limit : ℕ) → Routing
+abbrev pub exhausts : (node outcome limit : ℕ) → Routing
 exhausts n o x = record { streak = no_streak; outcome = exhausted; note = record { code = note_exhausted; node = n; a = o; b = x; c = 0 } }
 
-abbrev goes_on : (outcome : ℕ) → Streak → Routing
+abbrev pub goes_on : (outcome : ℕ) → Streak → Routing
 goes_on o k = record { streak = k; outcome = o; note = no_note }
 
 unfoldable pub routing_of : Found → Streak → (node outcome : ℕ) → Routing
@@ -57,24 +57,13 @@ next_of Nothing n = Refuse invariant
 
 module _ (f : Workflow) (s : State) (n : ℕ) where
   -- The move that routes.
-  abbrev along : Routing → Move
+  abbrev pub along : Routing → Move
   along y = record { state = with_streak s n y.streak; next = next_of (route_of f n y.outcome) n; note = y.note; ending = no_ending; order = Order.Nothing; read = 0 }
 
-  follow_on : (x : Found) → follow_to f s n x ≡ still s (next_of x n)
+  pub follow_on : (x : Found) → follow_to f s n x ≡ still s (next_of x n)
   unfolding follow_to next_of
   follow_on (At t) = refl
   follow_on Nothing = refl
-
-module _ (f : Workflow) (s : State) (n o : ℕ) where
-  either_way : (b : Bool) (x : ℕ) (k : Streak) → (when b then noting note_exhausted n o x 0 (follow_to f (with_streak s n no_streak) n (route_of f n exhausted)) else follow_to f (with_streak s n k) n (route_of f n o)) ≡ along f s n (when b then exhausts n o x else goes_on o k)
-  unfolding when◌then◌else◌
-  either_way true x k = rw (follow_on f (with_streak s n no_streak) n (route_of f n exhausted))
-  either_way false x k = follow_on f (with_streak s n k) n (route_of f n o)
-
-  route_along : (l : Found) → route_limited f s n o l ≡ along f s n (routing_of l (streak_of s n) n o)
-  unfolding route_limited routing_of
-  route_along Nothing = follow_on f (with_streak s n no_streak) n (route_of f n o)
-  route_along (At x) = either_way (leb x (streak_count (streak_of s n) o)) x (record { outcome = o; count = streak_count (streak_of s n) o + 1 })
 
 -- WHAT IS STORED AND SAID, as the code works it out before it stores it: what it makes of a record.
 abbrev pub stored_by : State → (node : ℕ) → Routed → State
@@ -101,25 +90,11 @@ pub unstored_makes : (p : Position) (k : Streak) (n : Next) (t : Note) (e : Endi
 unfolding unstored when◌then◌else◌
 unstored_makes p k n t e m h g = record { inside = λ z. let y : false ≡ true = rw h at z in absurd (false≢true y); of_record = λ s a b. rw h (g s a) }
 
--- A node that is there routes: what the code works out one by one is the move.
+-- A node that lacks a slot goes astray.
 module _ (f : Workflow) (p : Position) (k : Streak) (o : ℕ) (x : Output) (e : Ending) where
-  pub routes : {m : ℕ} {l t : Found} {y : Routing} {n : Next} → m ≡ node_slots f → p.node < m → l ≡ limit_of f p.node o → y ≡ routing_of l k p.node o → t ≡ route_of f p.node y.outcome → n ≡ next_of t p.node
-      → Makes p k (record { stored = true; result = record { visit = p.visit; outcome = o; output = x }; streak = y.streak; next = n; note = y.note; ending = e }) (λ s. ends e (route f s o x))
-  unfolding route when◌then◌else◌
-  routes em lt el ey et en =
-      let past : leb (node_slots f) p.node ≡ false = lt-leb (node_slots f) p.node (omega arith) in
-      record { inside = λ _. omega arith; of_record = λ s a b. rw a (simp (past, route_along, b, en, et, ey, el)) }
-
   pub strays : {m : ℕ} {r : Routed} → m ≡ node_slots f → m ≤ p.node → r ≡ unstored (Refuse invariant) no_note e → Makes p k r (λ s. ends e (route f s o x))
   unfolding route when◌then◌else◌
   strays em le h = unstored_makes p k _ _ _ _ h (λ s a. rw a (simp (← em, le-leb _ _ le)))
-
--- Routing says no ending.
-pub unended : (f : Workflow) (s : State) (o : ℕ) (x : Output) → ends no_ending (route f s o x) ≡ route f s o x
-unfolding route when◌then◌else◌
-unended f s o x =
-    split (leb (node_slots f) s.position.node) (λ h. rw h)
-    (λ h. rw (h, route_along f (with_result s s.position.node (record { visit = s.position.visit; outcome = o; output = x })) s.position.node o (limit_of f s.position.node o)))
 
 -- A signal that is taken: o is its outcome, v the route of that.
 module _ (f : Workflow) (p : Position) (k : Streak) (x : BufferedSignal) (m : Next) {o : ℕ} {v : Found} {r : Routed} (outcome : o ≡ signal_outcome x.outcome) (found : v ≡ signal_route f p.node o) where

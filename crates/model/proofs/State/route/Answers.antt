@@ -4,7 +4,8 @@ use Rattle.std.proofs.Common.{rules}
 use Rattle.laws.specs.Bool.{if_true, if_false}
 use Rattle.laws.specs.Arrays.{length_field, past_getD}
 use Rattle.model.specs.Record.{streak_of}
-use Rattle.model.specs.RouteLaws.{stored_by, unended}
+use Rattle.model.specs.RouteLaws.{stored_by}
+use Rattle.model.proofs.RouteAlong.{unended}
 use Rattle.model.proofs.State.route.Goals as goal
 use Rattle.model.proofs.State.route.Goals.{then-n-lt-NODES, else-n-lt-NODES, then-r, else-r}
 

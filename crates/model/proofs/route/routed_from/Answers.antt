@@ -1,5 +1,6 @@
 use mathlib.Core.Path.{◌∙◌}
-use Rattle.model.specs.RouteLaws.{routes, strays}
+use Rattle.model.specs.RouteLaws.{strays}
+use Rattle.model.proofs.RouteAlong.{routes}
 use Rattle.model.proofs.route.routed_from.Goals as goal
 
 pub returns-then-capped-n : goal.returns-then-capped-n

@@ -1,0 +1,2 @@
+-- routing, worked out one by one
+pub mod RouteAlong
