@@ -6,14 +6,9 @@ pub mod Host
 pub mod Fits
 pub mod ReadAnswer
 -- laws
-pub mod ReadLaws
 pub mod WriteLaws
 pub mod HostLaws
 pub mod Lists
 pub mod Cases
 pub mod ByCount
 pub mod WriteRows
-pub mod Round
-pub mod RoundBack
-pub mod RecordSame
-pub mod AnswerBack

@@ -7,7 +7,7 @@ use Rattle.laws.specs.Every.{every}
 use Rattle.laws.specs.Rows.{rows, rows_all}
 use Rattle.host.specs.Layout as layout
 use Rattle.host.specs.Read.{Field, number, field_fits, all_fit, event_fields, call_fits}
-use Rattle.host.specs.ReadLaws.{gathered, each_fits}
+use Rattle.host.proofs.ReadLaws.{gathered, each_fits}
 use Rattle.in_bytes.specs.Event.{event_call, event_fits}
 
 and_true : (b : Bool) → (b && true) ≡ b

@@ -21,8 +21,8 @@ use Rattle.host.specs.Read.{record_of, event_of, record_fits}
 use Rattle.host.specs.Write.{signal_numbers, visits_numbers, streak_numbers, result_numbers, head_numbers, record_numbers, marked, event_numbers}
 use Rattle.host.specs.WriteLaws.{Whole, length_head, length_signal, length_visits, length_streak, length_result, length_record, flat_size, record_laid, head_stored}
 use Rattle.host.specs.Cases.{small, name_small, code_small}
-use Rattle.host.specs.Round.{record_back, fits_read, event_field}
-use Rattle.host.specs.RecordSame.{record_back_whole}
+use Rattle.host.proofs.Round.{record_back, fits_read, event_field}
+use Rattle.host.proofs.RecordSame.{record_back_whole}
 use Rattle.codec.specs.Numbers.{all_below}
 use Rattle.codec.specs.Stages.{Stage, numbers, column, beside, staged}
 use Rattle.codec.specs.Slots.{slot, slots}

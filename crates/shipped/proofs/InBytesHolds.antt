@@ -19,7 +19,7 @@ use Rattle.host.specs.Read.{at, narrow, has_record, record_of, call_of, record_f
 use Rattle.host.specs.Write.{decision_numbers}
 use Rattle.host.specs.ReadAnswer.{answer_of_numbers}
 use Rattle.host.specs.Host.{receipt, decided, answered}
-use Rattle.host.specs.AnswerBack.{answer_numbers_length, splice_begins, answered_begins}
+use Rattle.host.proofs.AnswerBack.{answer_numbers_length, splice_begins, answered_begins}
 use Rattle.codec.specs.Read.{got}
 use Rattle.codec.specs.Numbers.{bytes_of, all_below}
 use Rattle.in_bytes.specs.Sheet.{sheet as sheet_shape}

@@ -19,9 +19,9 @@ use Rattle.host.specs.Write.{record_numbers, decision_numbers}
 use Rattle.host.specs.Host.{receipt, answered}
 use Rattle.host.specs.HostLaws.{receipt_call, receipt_record}
 use Rattle.host.specs.ReadAnswer.{answer_of_numbers}
-use Rattle.host.specs.Round.{fits_read, call_fits_read}
-use Rattle.host.specs.RoundBack.{record_back_of, numbers_fit}
-use Rattle.host.specs.AnswerBack.{next_record, want_record, answered_begins, answered_read}
+use Rattle.host.proofs.Round.{fits_read, call_fits_read}
+use Rattle.host.proofs.RoundBack.{record_back_of, numbers_fit}
+use Rattle.host.proofs.AnswerBack.{next_record, want_record, answered_begins, answered_read}
 use Rattle.shipped.proofs.Sheet.{sheet_fits}
 use Rattle.shipped.proofs.Ranges.{LastFits, RecordFits, kept_fits}
 use Rattle.shipped.proofs.Refusals.{KnownAnswer, known_answer}

@@ -1,5 +1,4 @@
 use native.Mathlib.Omega.{arith}
-use Prim.Native.Nat.{◌-◌}
 use Rattle.laws.specs.Zeros.{dirt_start, dirt_more, dirt_end}
 use Rattle.host.proofs.read.blank.Goals as goal
 

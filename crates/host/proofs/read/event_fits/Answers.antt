@@ -1,4 +1,4 @@
-use Rattle.host.specs.ReadLaws.{each_fits}
+use Rattle.host.proofs.ReadLaws.{each_fits}
 use Rattle.host.proofs.read.event_fits.Goals as goal
 
 pub returns : goal.returns

@@ -1,7 +1,7 @@
 use mathlib.Core.Bool.{◌&&◌}
 use mathlib.Core.Path.{ap₂}
 use Rattle.host.specs.Read.{node_fits}
-use Rattle.host.specs.ReadLaws.{each_fits}
+use Rattle.host.proofs.ReadLaws.{each_fits}
 use Rattle.host.proofs.read.node_fits.Goals as goal
 
 pub returns : goal.returns

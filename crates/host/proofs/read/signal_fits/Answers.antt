@@ -1,5 +1,5 @@
 use Rattle.host.specs.Read.{signal_fits}
-use Rattle.host.specs.ReadLaws.{each_fits}
+use Rattle.host.proofs.ReadLaws.{each_fits}
 use Rattle.host.proofs.read.signal_fits.Goals as goal
 
 pub returns : goal.returns

@@ -1,5 +1,4 @@
 use Rattle.std.proofs.Common.{rules}
-use Prim.Native.Nat.{◌-◌}
 use Rattle.host.specs.ByCount.{rows_start, rows_next, rows_end}
 use Rattle.host.proofs.read.signals.Goals as goal
 

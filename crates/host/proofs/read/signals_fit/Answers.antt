@@ -1,5 +1,4 @@
-use Prim.Native.Nat.{◌-◌}
-use Rattle.host.specs.ReadLaws.{gather_start, gather_more, gather_end}
+use Rattle.host.proofs.ReadLaws.{gather_start, gather_more, gather_end}
 use Rattle.host.proofs.read.signals_fit.Goals as goal
 
 pub loop-i-preserved : goal.loop-i-preserved

@@ -1,7 +1,7 @@
 use Prim.Native.Nat.{◌-◌}
 use Rattle.laws.specs.Every.{below}
 use Rattle.host.specs.Read.{signal_fits}
-use Rattle.host.specs.ReadLaws.{Gather}
+use Rattle.host.proofs.ReadLaws.{Gather}
 use Rattle.host.proofs.read.signals_fit.Given as goal
 
 -- what was found so far, with what is left, is the answer

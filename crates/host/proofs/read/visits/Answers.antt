@@ -1,7 +1,5 @@
 use Rattle.std.proofs.Common.{rules}
 use mathlib.Core.Path.{refl}
-use Prim.Native.Nat.{◌-◌}
-use Rattle.host.specs.Read.{visits_of}
 use Rattle.host.specs.ByCount.{rows_start, rows_next, rows_end}
 use Rattle.host.proofs.read.visits.Goals as goal
 

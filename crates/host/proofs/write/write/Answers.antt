@@ -1,6 +1,5 @@
 use native.Mathlib.Omega.{arith}
 use mathlib.Core.Path.{refl}
-use Prim.Native.Nat.{◌-◌}
 use Rattle.laws.specs.Splice.{write_start, write_next, write_end, splice_one, flat_ones}
 use Rattle.host.proofs.write.write.Goals as goal
 

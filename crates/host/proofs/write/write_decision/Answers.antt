@@ -5,7 +5,7 @@ use Rattle.laws.specs.Arrays.{length_field}
 use Rattle.host.specs.Layout.{notes, endings}
 use Rattle.host.specs.WriteLaws.{Whole}
 use Rattle.host.specs.WriteRows.{front_written, refusal_written, record_written, wrote_left}
-use Rattle.host.specs.AnswerBack.{decision_long}
+use Rattle.host.proofs.AnswerBack.{decision_long}
 use Rattle.std.proofs.Common.{rules}
 use Rattle.host.proofs.write.write_decision.Goals as goal
 

@@ -1,6 +1,5 @@
 use Rattle.std.proofs.Common.{rules}
 use native.Mathlib.Omega.{arith}
-use Prim.Native.Nat.{◌-◌}
 use Rattle.host.specs.Write.{ending_numbers}
 use Rattle.host.specs.WriteLaws.{length_ending}
 use Rattle.host.specs.WriteRows.{writing_start, writing_next, writing_end}

@@ -1,7 +1,7 @@
 use Rattle.std.proofs.Common.{rules}
 use native.Mathlib.Omega.{arith}
 use mathlib.Core.Path.{◌∙◌, ap}
-use Prim.Native.Nat.{◌+◌, ◌*◌, ◌-◌}
+use Prim.Native.Nat.{◌+◌, ◌*◌}
 use Rattle.laws.specs.Splice.{splice}
 use Rattle.host.specs.Layout.{result_width}
 use Rattle.host.specs.WriteLaws.{length_result, result_row}

@@ -1,6 +1,5 @@
 use Rattle.std.proofs.Common.{rules}
 use native.Mathlib.Omega.{arith}
-use Prim.Native.Nat.{◌-◌}
 use Rattle.host.specs.Write.{signal_numbers}
 use Rattle.host.specs.WriteLaws.{length_signal}
 use Rattle.host.specs.WriteRows.{joined_start, joined_next, joined_end, writing_start, writing_next, writing_end}

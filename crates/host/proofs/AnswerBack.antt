@@ -30,7 +30,7 @@ use Rattle.host.specs.Host.{receipt, decided, answered, Full}
 use Rattle.host.specs.ReadAnswer.{params_from, order_from, note_from, ending_from, accepted_from, answer_of_numbers}
 use Rattle.host.specs.Fits.{Fits, AcceptedFits, AnswerFits}
 use Rattle.host.specs.Lists.{span_list, row_at, length_padded, padded_at}
-use Rattle.host.specs.RoundBack.{record_back_of, record_numbers_length}
+use Rattle.host.proofs.RoundBack.{record_back_of, record_numbers_length}
 
 -- THE ORDER behind the answer's first two numbers.
 params_back : (x : Params) (rest : List ℕ) → params_from (at (params_numbers x ++ rest) 0) (at (params_numbers x ++ rest) 1) ≡ x
