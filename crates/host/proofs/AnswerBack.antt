@@ -25,11 +25,11 @@ use Rattle.host.specs.Layout as layout
 use Rattle.host.specs.Layout.{note_place, ending_place, answer_length, answer_record, record_length}
 use Rattle.host.specs.Read.{at, record_of, call_of, has_record}
 use Rattle.host.specs.Write.{note_numbers, ending_numbers, record_numbers, state_numbers, decision_numbers}
-use Rattle.host.specs.WriteLaws.{Whole, flat_size, length_answer, length_note, length_ending, length_record}
+use Rattle.host.proofs.WriteLaws.{Whole, flat_size, length_answer, length_note, length_ending, length_record}
 use Rattle.host.specs.Host.{receipt, decided, answered, Full}
 use Rattle.host.specs.ReadAnswer.{params_from, order_from, note_from, ending_from, accepted_from, answer_of_numbers}
 use Rattle.host.specs.Fits.{Fits, AcceptedFits, AnswerFits}
-use Rattle.host.specs.Lists.{span_list, row_at, length_padded, padded_at}
+use Rattle.host.proofs.Lists.{span_list, row_at, length_padded, padded_at}
 use Rattle.host.proofs.RoundBack.{record_back_of, record_numbers_length}
 
 -- THE ORDER behind the answer's first two numbers.

@@ -1,3 +1,9 @@
+pub mod Lists
+pub mod Cases
+pub mod WriteLaws
+pub mod ByCountLaws
+pub mod WriteRowsLaws
+pub mod HostLaws
 pub mod ReadLaws
 pub mod Round
 pub mod RoundBack

@@ -13,7 +13,7 @@ use Rattle.model.specs.declared.State.{State}
 use Rattle.model.specs.Answers.{output_numbers, kept_numbers}
 use Rattle.host.specs.Read.{at, record_of, record_fits}
 use Rattle.host.specs.Write.{signal_numbers, visits_numbers, streak_numbers, result_numbers, scalar_numbers, head_numbers, record_numbers}
-use Rattle.host.specs.WriteLaws.{Whole, length_output, length_kept, length_scalars, length_head, length_signal, length_visits, length_streak, length_result, length_record, flat_size, record_laid}
+use Rattle.host.proofs.WriteLaws.{Whole, length_output, length_kept, length_scalars, length_head, length_signal, length_visits, length_streak, length_result, length_record, flat_size, record_laid}
 use Rattle.host.proofs.Round.{record_back, fits_read}
 
 -- Lists of the same length, with more behind them.

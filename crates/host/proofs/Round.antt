@@ -11,8 +11,8 @@ use Rattle.host.specs.Layout.{store, nodes, signal_width, streak_width, result_w
 use Rattle.host.specs.Read.{at, signal_of, visits_of, streak_of, result_of, position_of, invocation_of, run_result_of, record_of, event_of, mapping_of, ceilings_of, limits_of, call_of, Field, number, all_fit, head_fields, signal_fields, node_fields, limit_fields, event_fields, mapping_fields, output_fits, head_fits, signal_fits, node_fits, record_fits, call_fits}
 use Rattle.host.specs.Write.{signal_numbers, visits_numbers, streak_numbers, result_numbers, scalar_numbers, head_numbers, record_numbers}
 use Rattle.host.specs.Fits.{Number, SignalFits, StreakFits, ResultFits, PositionFits, InvocationFits, Fits, EventFits, MappingFits, CallFits}
-use Rattle.host.specs.Lists.{all_span, rows_append, flat_rows}
-use Rattle.host.specs.Cases.{Below, both_of, small, name_small, narrow_below, fields_below, OutputCase, KeptCase, output_case, kept_case, output_again, kept_again, output_read, kept_read}
+use Rattle.host.proofs.Lists.{all_span, rows_append, flat_rows}
+use Rattle.host.proofs.Cases.{Below, both_of, small, name_small, narrow_below, fields_below, OutputCase, KeptCase, output_case, kept_case, output_again, kept_again, output_read, kept_read}
 
 -- The fields of a group by their place in its list.
 abbrev none : Field

@@ -16,10 +16,10 @@ use Rattle.host.specs.Layout as layout
 use Rattle.host.specs.Layout.{store, nodes, signal_width, streak_width, result_width, signal_place, visits_place, streak_place, result_place, record_signals, record_visits, record_streaks, record_results, record_length}
 use Rattle.host.specs.Read.{at, narrow, signal_of, visits_of, streak_of, result_of, position_of, invocation_of, run_result_of, record_of, head_fields, signal_fields, node_fields, output_of, output_fits, kept_of, kept_fits, head_fits, signal_fits, node_fits, record_fits}
 use Rattle.host.specs.Write.{signal_numbers, visits_numbers, streak_numbers, result_numbers, scalar_numbers, head_numbers, record_numbers}
-use Rattle.host.specs.WriteLaws.{Whole, flat_size, length_output, length_kept, length_scalars, length_head, length_signal, length_visits, length_streak, length_result, length_record}
+use Rattle.host.proofs.WriteLaws.{Whole, flat_size, length_output, length_kept, length_scalars, length_head, length_signal, length_visits, length_streak, length_result, length_record}
 use Rattle.host.specs.Fits.{Number, SignalFits, StreakFits, ResultFits, Fits}
-use Rattle.host.specs.Lists.{all_at, span_list, row_at}
-use Rattle.host.specs.Cases.{of_both, small, name_small, below_fields, output_back, kept_back, output_fit, kept_fit}
+use Rattle.host.proofs.Lists.{all_at, span_list, row_at}
+use Rattle.host.proofs.Cases.{of_both, small, name_small, below_fields, output_back, kept_back, output_fit, kept_fit}
 
 -- Values for places past an array's end.
 no_signal : BufferedSignal

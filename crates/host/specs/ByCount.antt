@@ -1,15 +1,7 @@
--- A record read by count: where the rows past a count are zeros, they are read as empty rows, and they fit.
-use Rattle.std.specs.Prelude.{◌≡◌, refl, Bool, true, ◌&&◌, List, ℕ, zero, suc, ◌+◌, ◌-◌, ◌≤◌, ◌<◌, set, drop, replicate, ltb, eqb}
-use Rattle.std.proofs.Common.{sym, ◌∙◌, eqb-true, ltb-true, ltb-false}
-use Rattle.std.proofs.lemmas.Bool.{false≢true}
-use native.Mathlib.Omega.{arith}
-use Rattle.std.proofs.Math.ListN.{length}
-use Rattle.std.proofs.lemmas.List.{length-replicate}
-use Rattle.laws.specs.Bool.{when◌then◌else◌, split}
-use Rattle.laws.specs.Rows.{span, length_span, at_span}
-use Rattle.laws.specs.Every.{every, below}
-use Rattle.laws.specs.In.{every_in, in_span, below_at, at_below}
-use Rattle.laws.specs.Splice.{splice, Filled, fill_start, fill_next}
+-- A record read by count: where the rows past a count are zeros.
+use Rattle.std.specs.Prelude.{◌≡◌, Bool, true, List, ℕ, ◌≤◌, ◌<◌, eqb}
+use Rattle.laws.specs.Rows.{span}
+use Rattle.laws.specs.Every.{every}
 use Rattle.laws.specs.Listing.{padded}
 use Rattle.model.specs.declared.BufferedSignal.{BufferedSignal}
 use Rattle.model.specs.declared.Visits.{Visits}
@@ -19,9 +11,7 @@ use Rattle.model.specs.declared.State.{State}
 use Rattle.model.specs.Record.{no_signal, no_visits, no_streak, no_node_result}
 use Rattle.host.specs.declared.read.Used.{Used}
 use Rattle.host.specs.Layout.{store, nodes, signal_place, visits_place, streak_place, result_place, record_visits, record_streaks, record_results, record_length}
-use Rattle.host.specs.Read.{at, narrow, signal_of, visits_of, streak_of, result_of, output_of, record_of, signal_fields, node_fields, output_fits, head_fits, signal_fits, node_fits, record_fits}
-use Rattle.host.specs.Lists.{span_list, length_padded, padded_at, padded_past}
-use Rattle.host.specs.Cases.{below_fields, of_both}
+use Rattle.host.specs.Read.{at, signal_of, visits_of, streak_of, result_of, record_of}
 
 -- The numbers from a place to an end are zero, as a test and as a fact.
 abbrev pub blank : List ℕ → (start end : ℕ) → Bool
@@ -29,9 +19,6 @@ blank numbers start end = every (λ number. eqb number 0) (span (at numbers) sta
 
 abbrev pub Zeros : List ℕ → (start end : ℕ) → Type 0
 Zeros numbers start end = (place : ℕ) → start ≤ place → place < end → at numbers place ≡ 0
-
-pub blank_zeros : (numbers : List ℕ) (start end : ℕ) → blank numbers start end ≡ true → Zeros numbers start end
-blank_zeros numbers start end h place a b = eqb-true _ 0 (every_in (λ number. eqb number 0) h (in_span (at numbers) (end - start) start end place (omega arith) a b))
 
 -- ROWS PAST A COUNT.
 pub record SignalsPast (numbers : List ℕ) (rows : ℕ) : Type 0 where
@@ -77,123 +64,3 @@ unfoldable pub record_rows : (signals nodes : ℕ) → List ℕ → State
 record_rows signal_rows node_rows numbers =
     with_rows (record_of numbers) (padded store no_signal (span (signal_of numbers) 0 signal_rows)) (padded nodes no_visits (span (visits_of numbers) 0 node_rows))
     (padded nodes no_streak (span (streak_of numbers) 0 node_rows)) (padded nodes no_node_result (span (result_of numbers) 0 node_rows))
-
--- Rows that f reads up to k, and the empty one from there on, are all that f reads.
-padded_span : {A : Type 0} (f : ℕ → A) (d : A) (n k : ℕ) → k ≤ n → ((i : ℕ) → k ≤ i → i < n → f i ≡ d) → padded n d (span f 0 k) ≡ span f 0 n
-padded_span f d n k low empty =
-    let l = padded n d (span f 0 k) in
-    let s = length_span f k in
-    sym (span_list f d l n (length_padded d (span f 0 k) n (omega arith)) (λ i h.
-    split (ltb i k) (λ q. let g = ltb-true i k q in at_span f k i d g refl ∙ sym (padded_at d (span f 0 k) n i (omega arith)))
-    (λ q. let g = ltb-false i k q in empty i g h ∙ sym (padded_past d (span f 0 k) n i (omega arith)))))
-
-module _ (r : List ℕ) where
-  -- A ROW OF ZEROS is the empty row, and fits.
-  module _ (k : ℕ) (h : SignalsPast r k) (i : ℕ) (a : k ≤ i) (b : i < store) where
-    signal_zero : (p : ℕ) → signal_place i ≤ p → p < signal_place i + 5 → at r p ≡ 0
-    signal_zero p c d = h.zeros p (omega arith) (omega arith)
-
-    pub signal_none : signal_of r i ≡ no_signal
-    unfolding signal_of narrow
-    signal_none =
-        rw (signal_zero (signal_place i) (omega arith) (omega arith), signal_zero (signal_place i + 1) (omega arith) (omega arith), signal_zero (signal_place i + 2) (omega arith) (omega arith), signal_zero (signal_place i + 3) (omega arith) (omega arith), signal_zero (signal_place i + 4) (omega arith) (omega arith))
-
-    pub signal_fine : signal_fits r i ≡ true
-    unfolding signal_fits
-    signal_fine =
-        let w = signal_zero (signal_place i + 1) (omega arith) (omega arith) in
-        let x = signal_zero (signal_place i + 2) (omega arith) (omega arith) in
-        let y = signal_zero (signal_place i + 3) (omega arith) (omega arith) in
-        let z = signal_zero (signal_place i + 4) (omega arith) (omega arith) in
-        below_fields r (signal_fields i) (omega arith, (omega arith, (omega arith, (omega arith, tt))))
-
-  module _ (k : ℕ) (h : NodesPast r k) (i : ℕ) (a : k ≤ i) (b : i < nodes) where
-    visits_zero : at r (visits_place i) ≡ 0
-    visits_zero = h.visits (visits_place i) (omega arith) (omega arith)
-
-    streak_zero : (p : ℕ) → streak_place i ≤ p → p < streak_place i + 2 → at r p ≡ 0
-    streak_zero p c d = h.streaks p (omega arith) (omega arith)
-
-    result_zero : (p : ℕ) → result_place i ≤ p → p < result_place i + 6 → at r p ≡ 0
-    result_zero p c d = h.results p (omega arith) (omega arith)
-
-    pub visits_none : visits_of r i ≡ no_visits
-    unfolding visits_of narrow
-    visits_none = rw visits_zero
-
-    pub streak_none : streak_of r i ≡ no_streak
-    unfolding streak_of narrow
-    streak_none = rw (streak_zero (streak_place i) (omega arith) (omega arith), streak_zero (streak_place i + 1) (omega arith) (omega arith))
-
-    pub result_none : result_of r i ≡ no_node_result
-    unfolding result_of output_of narrow when◌then◌else◌
-    result_none =
-        rw (result_zero (result_place i) (omega arith) (omega arith), result_zero (result_place i + 1) (omega arith) (omega arith), result_zero (result_place i + 2) (omega arith) (omega arith))
-
-    pub node_fine : node_fits r i ≡ true
-    unfolding node_fits output_fits when◌then◌else◌
-    node_fine =
-        let v = visits_zero in
-        let s = streak_zero (streak_place i) (omega arith) (omega arith) in
-        let t = streak_zero (streak_place i + 1) (omega arith) (omega arith) in
-        let x = result_zero (result_place i) (omega arith) (omega arith) in
-        let y = result_zero (result_place i + 1) (omega arith) (omega arith) in
-        of_both _ _ (below_fields r (node_fields i) (omega arith, (omega arith, (omega arith, (omega arith, (omega arith, tt))))))
-        (rw (result_zero (result_place i + 2) (omega arith) (omega arith), result_zero (result_place i + 3) (omega arith) (omega arith), result_zero (result_place i + 4) (omega arith) (omega arith), result_zero (result_place i + 5) (omega arith) (omega arith)))
-
-  -- THE WHOLE RECORD, read by count.
-  pub rows_record : {used : Used} → Past r used → record_rows used.signals used.nodes r ≡ record_of r
-  unfolding record_rows record_of
-  rows_record {used} h =
-      let s = h.signals in
-      let n = h.nodes in
-      rw (
-        padded_span (signal_of r) no_signal store used.signals s.low (signal_none _ s),
-        padded_span (visits_of r) no_visits nodes used.nodes n.low (visits_none _ n),
-        padded_span (streak_of r) no_streak nodes used.nodes n.low (streak_none _ n),
-        padded_span (result_of r) no_node_result nodes used.nodes n.low (result_none _ n),
-      )
-
--- A test of the first k numbers is one of all where those past k pass.
-pub below_more : (k n : ℕ) (p : ℕ → Bool) → k ≤ n → ((i : ℕ) → k ≤ i → i < n → p i ≡ true) → below k p ≡ below n p
-below_more k n p low past =
-    split (below k p)
-    (λ e. e ∙ sym (at_below n p (λ i h. split (ltb i k) (λ q. below_at k p e i (ltb-true i k q)) (λ q. past i (ltb-false i k q) h))))
-    (λ e. e ∙ sym (split (below n p) (λ g. absurd (false≢true (sym e ∙ at_below k p (λ i h. below_at n p g i (omega arith))))) (λ g. g)))
-
-pub rows_fit : (r : List ℕ) {used : Used} → Past r used → (head_fits r && below used.signals (signal_fits r) && below used.nodes (node_fits r)) ≡ record_fits r
-unfolding record_fits
-rows_fit r {used} h =
-    let s = h.signals in
-    let n = h.nodes in
-    rw (below_more used.signals store (signal_fits r) s.low (signal_fine r _ s), below_more used.nodes nodes (node_fits r) n.low (node_fine r _ n))
-
--- A LOOP that reads the first k rows into an array of n empty ones.
-pub record RowsRead {A : Type 0} (f : ℕ → A) (d : A) (n k i : ℕ) (l₀ l : List A) : Type 0 where
-  pub filled : Filled f n i l₀ l
-  pub empty : l₀ ≡ replicate n d
-  pub inside : i ≤ k
-  pub low : k ≤ n
-
-pub drop_replicate : {A : Type 0} (d : A) (n k : ℕ) → drop k (replicate n d) ≡ replicate (n - k) d
-drop_replicate d n zero = let e : n - 0 ≡ n = omega arith in rw e
-drop_replicate d zero (suc k) = let e : 0 - suc k ≡ 0 = omega arith in rw e
-drop_replicate d (suc n) (suc k) = let e : suc n - suc k ≡ n - k = omega arith in rw e (drop_replicate d n k)
-
-pub rows_start : {A : Type 0} {f : ℕ → A} {d : A} {n k : ℕ} {l : List A} → l ≡ replicate n d → k ≤ n → RowsRead f d n k 0 l l
-rows_start {A} {f} {d} {n} {k} {l} e h = record { filled = fill_start (rw e (length-replicate n d)); empty = e; inside = omega arith; low = h }
-
-module _ {A : Type 0} {f : ℕ → A} {d : A} {n k i : ℕ} {l₀ l : List A} (inv : RowsRead f d n k i l₀ l) where
-  pub rows_next : {x : A} → x ≡ f i → i < k → RowsRead f d n k (i + 1) l₀ (set l i x)
-  rows_next e h =
-      let a = inv.low in
-      record { filled = fill_next inv.filled e (omega arith); empty = inv.empty; inside = omega arith; low = a }
-
-  pub rows_end : k ≤ i → l ≡ padded n d (span f 0 k)
-  unfolding padded splice
-  rows_end h =
-      let a = inv.inside in
-      let e : i ≡ k = omega arith in
-      let s = length_span f k in
-      let z : 0 + length (span f 0 k) ≡ length (span f 0 k) = omega arith in
-      (rw (e, inv.empty) at inv.filled.so_far) ∙ rw (z, drop_replicate)

@@ -5,10 +5,5 @@ pub mod Write
 pub mod Host
 pub mod Fits
 pub mod ReadAnswer
--- laws
-pub mod WriteLaws
-pub mod HostLaws
-pub mod Lists
-pub mod Cases
 pub mod ByCount
 pub mod WriteRows

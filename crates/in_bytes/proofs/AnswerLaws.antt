@@ -13,11 +13,12 @@ use Rattle.laws.specs.All.{All}
 use Rattle.host.specs.Layout as layout
 use Rattle.codec.specs.Numbers.{bytes_of, part}
 use Rattle.codec.specs.Stages.{numbers, column, beside, widths, staged}
-use Rattle.codec.specs.Exact.{Exact, bytes_append}
-use Rattle.codec.specs.Loops.{BytesFirst}
-use Rattle.codec.specs.ColumnsLaws.{bytes_few, StageExact, staged_width, staged_exact}
+use Rattle.codec.specs.Exact.{Exact}
+use Rattle.codec.proofs.ExactLaws.{bytes_append}
+use Rattle.codec.proofs.Loops.{BytesFirst}
+use Rattle.codec.proofs.ColumnsLaws.{bytes_few, StageExact, staged_width, staged_exact}
 use Rattle.in_bytes.specs.Run.{run}
-use Rattle.in_bytes.specs.RunLaws.{numbers_stage, column_stage, run_width, run_exact}
+use Rattle.in_bytes.proofs.RunLaws.{numbers_stage, column_stage, run_width, run_exact}
 use Rattle.in_bytes.specs.Answer.{the_run, next_stages, next, want_stages, want, answer, answer_head}
 
 -- BOTH WAYS. Each stage is exact.

@@ -13,17 +13,17 @@ use Rattle.codec.specs.Read.{Read, got, bad}
 use Rattle.codec.specs.Numbers.{bytes_of, all_below}
 use Rattle.codec.specs.Stages.{Shape, numbers}
 use Rattle.codec.specs.Exact.{Bytes, Exact}
-use Rattle.codec.specs.ColumnsLaws.{exact_few}
+use Rattle.codec.proofs.ColumnsLaws.{exact_few}
 use Rattle.in_bytes.specs.Sheet.{sheet}
 use Rattle.in_bytes.proofs.SheetLaws.{sheet_exact, sheet_width}
 use Rattle.in_bytes.specs.Run.{run}
-use Rattle.in_bytes.specs.RunLaws.{run_exact, run_width}
+use Rattle.in_bytes.proofs.RunLaws.{run_exact, run_width}
 use Rattle.in_bytes.specs.Event.{event, event_fits}
 use Rattle.in_bytes.specs.Call.{call}
 use Rattle.in_bytes.proofs.CallLaws.{event_exact, call_exact}
 use Rattle.in_bytes.specs.Boundary.{bad_form, bad_run, no_item, Outcome, done, refused, into, write_sheet, write_run, write_event, ended, whole, taken, read_sheet, read_run, read_event, unread, decide}
 use Rattle.in_bytes.proofs.DecideLaws.{call_width, decide_bad}
-use Rattle.in_bytes.specs.BoundaryLaws.{all_back, into_done, sheet_into, run_into, event_into, taken_done, sheet_taken, run_taken, event_taken}
+use Rattle.in_bytes.proofs.BoundaryLaws.{all_back, into_done, sheet_into, run_into, event_into, taken_done, sheet_taken, run_taken, event_taken}
 
 -- WHAT IS DONE: no test refused it, and there was room.
 not_done : {G : Type 0} {number item size : ℕ} {contents : List ℕ} → refused number item ≡ done size contents → G

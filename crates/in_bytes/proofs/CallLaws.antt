@@ -6,10 +6,10 @@ use Rattle.laws.specs.Bool.{either}
 use Rattle.host.specs.Layout as layout
 use Rattle.codec.specs.Stages.{Shape, numbers, column, widths}
 use Rattle.codec.specs.Exact.{Exact}
-use Rattle.codec.specs.NumbersLaws.{numbers_exact}
-use Rattle.codec.specs.ColumnsLaws.{column_exact, StageExact, staged_width, staged_exact}
+use Rattle.codec.proofs.NumbersLaws.{numbers_exact}
+use Rattle.codec.proofs.ColumnsLaws.{column_exact, StageExact, staged_width, staged_exact}
 use Rattle.in_bytes.specs.Event.{event}
-use Rattle.in_bytes.specs.RunLaws.{numbers_stage, column_stage, run_width, run_exact}
+use Rattle.in_bytes.proofs.RunLaws.{numbers_stage, column_stage, run_width, run_exact}
 use Rattle.in_bytes.proofs.SheetLaws.{sheet_exact, sheet_width}
 use Rattle.in_bytes.specs.Call.{mark, given_shape, given, event_numbers, answered, answers, rest, limits, the_sheet, the_rest, call, call_on}
 

@@ -14,10 +14,11 @@ use Rattle.codec.specs.Read.{Read, got, bad}
 use Rattle.codec.specs.Numbers.{numbers_at}
 use Rattle.codec.specs.Stages.{numbers}
 use Rattle.codec.specs.Stored.{place_of, Stored, ZeroFrom}
-use Rattle.codec.specs.Exact.{Bytes, not_bad}
-use Rattle.codec.specs.NumbersLaws.{numbers_long}
-use Rattle.codec.specs.StoredLaws.{at_got, at_bad, bad_place, got_place}
-use Rattle.codec.specs.Zeros.{zero_behind}
+use Rattle.codec.specs.Exact.{Bytes}
+use Rattle.codec.proofs.ExactLaws.{not_bad}
+use Rattle.codec.proofs.NumbersLaws.{numbers_long}
+use Rattle.codec.proofs.StoredLaws.{at_got, at_bad, bad_place, got_place}
+use Rattle.codec.proofs.Zeros.{zero_behind}
 use Rattle.in_bytes.specs.Sheet.{sheet}
 use Rattle.in_bytes.proofs.SheetLaws.{sheet_exact, sheet_width}
 use Rattle.in_bytes.specs.Call.{rest, limits, the_sheet, the_rest, call, call_on, sheet_in, without_sheet, run_in, numbers_in}

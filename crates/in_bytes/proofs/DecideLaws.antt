@@ -17,14 +17,14 @@ use Rattle.codec.specs.Numbers.{part, numbers_at, all_below}
 use Rattle.codec.specs.Stages.{numbers, beside, widths, staged}
 use Rattle.codec.specs.Stored.{place_of, Stored}
 use Rattle.codec.specs.Exact.{Bytes}
-use Rattle.codec.specs.Parts.{part_below}
+use Rattle.codec.proofs.Parts.{part_below}
 use Rattle.in_bytes.specs.Event.{event}
 use Rattle.in_bytes.specs.Call.{the_rest, call, call_on, without_sheet, run_in, numbers_in}
 use Rattle.in_bytes.specs.CallStored.{CallStored, OnStored}
 use Rattle.in_bytes.proofs.StagesLeft.{read_long}
 use Rattle.in_bytes.proofs.CallLaws.{call_exact, call_on_exact}
 use Rattle.in_bytes.specs.Boundary.{bad_bytes, no_item, refused, ended, whole, Decided, said, unread, on_numbers, decide, decide_on, told, call_bytes_on, is_said, said_in, Of64Bits}
-use Rattle.in_bytes.specs.BoundaryLaws.{Whole}
+use Rattle.in_bytes.proofs.BoundaryLaws.{Whole}
 
 -- AN EVENT'S BYTES are read as numbers.
 module _ (bytes : List ℕ) where

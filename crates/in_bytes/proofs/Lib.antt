@@ -1,3 +1,7 @@
+pub mod StagesLoops
+pub mod RunLaws
+pub mod BoundaryLaws
+pub mod RunUsed
 pub mod SheetLaws
 pub mod AnswerLaws
 pub mod StagesLeft

@@ -19,14 +19,15 @@ use Rattle.codec.specs.Leb.{number_at}
 use Rattle.codec.specs.Numbers.{number_below, numbers_at}
 use Rattle.codec.specs.Stages.{numbers, column, Stage}
 use Rattle.codec.specs.Stored.{place_of, Stored, ZeroFrom}
-use Rattle.codec.specs.Exact.{Bytes, not_bad}
-use Rattle.codec.specs.ReadLaws.{both_read}
-use Rattle.codec.specs.NumbersLaws.{below_got, below_over, below_bad, below_any, numbers_long}
-use Rattle.codec.specs.StoredLaws.{at_got, at_bad, bad_place, got_place, got_stored}
-use Rattle.codec.specs.ShapesLoops.{nothing_yet, getD_splice, behind}
-use Rattle.codec.specs.ColumnsLaws.{column_read}
-use Rattle.codec.specs.ColumnsLoops.{column_place, column_long, column_stored}
-use Rattle.codec.specs.Zeros.{zero_behind}
+use Rattle.codec.specs.Exact.{Bytes}
+use Rattle.codec.proofs.ExactLaws.{not_bad}
+use Rattle.codec.proofs.ReadLaws.{both_read}
+use Rattle.codec.proofs.NumbersLaws.{below_got, below_over, below_bad, below_any, numbers_long}
+use Rattle.codec.proofs.StoredLaws.{at_got, at_bad, bad_place, got_place, got_stored}
+use Rattle.codec.proofs.ShapesLoops.{nothing_yet, getD_splice, behind}
+use Rattle.codec.proofs.ColumnsLaws.{column_read}
+use Rattle.codec.proofs.ColumnsLoops.{column_place, column_long, column_stored}
+use Rattle.codec.proofs.Zeros.{zero_behind}
 use Rattle.in_bytes.specs.Run.{run}
 use Rattle.in_bytes.specs.Call.{mark, given_shape, given, event_numbers, answered, answers, rest}
 use Rattle.in_bytes.specs.CallStored.{RestStored}

@@ -15,11 +15,11 @@ use Rattle.codec.specs.Numbers.{bytes_of, numbers_at, part}
 use Rattle.codec.specs.Stages.{Shape, numbers, beside, total, columns, widths, staged}
 use Rattle.codec.specs.Stored.{place_of, Stored, ZeroFrom}
 use Rattle.codec.specs.Exact.{Bytes, Exact}
-use Rattle.codec.specs.NumbersLaws.{numbers_exact, numbers_long}
-use Rattle.codec.specs.Parts.{part_long, part_below}
-use Rattle.codec.specs.StoredLaws.{at_got, at_bad, bad_place, bad_stored}
-use Rattle.codec.specs.ShapesLoops.{ReadingShapes, reading_start, reading_long, reading_room, reading_bad, reading_more, reading_place, reading_stored, held, neat, written, neat_next, neat_none, written_next, written_none}
-use Rattle.codec.specs.ColumnsLaws.{StageExact, staged_exact, staged_width, columns_exact, columns_width, exact_few}
+use Rattle.codec.proofs.NumbersLaws.{numbers_exact, numbers_long}
+use Rattle.codec.proofs.Parts.{part_long, part_below}
+use Rattle.codec.proofs.StoredLaws.{at_got, at_bad, bad_place, bad_stored}
+use Rattle.codec.proofs.ShapesLoops.{ReadingShapes, reading_start, reading_long, reading_room, reading_bad, reading_more, reading_place, reading_stored, held, neat, written, neat_next, neat_none, written_next, written_none}
+use Rattle.codec.proofs.ColumnsLaws.{StageExact, staged_exact, staged_width, columns_exact, columns_width, exact_few}
 use Rattle.in_bytes.specs.Sheet.{rooms, used, single_numbers, all_columns, sheet}
 
 -- BOTH WAYS.

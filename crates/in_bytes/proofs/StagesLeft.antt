@@ -6,7 +6,7 @@ use Rattle.codec.specs.Read.{Read, got, bad, onward}
 use Rattle.codec.specs.Numbers.{numbers_at}
 use Rattle.codec.specs.Stages.{Shape, numbers, beside, Stage, staged}
 use Rattle.codec.specs.Exact.{Bytes, Exact}
-use Rattle.codec.specs.ShapesLoops.{nothing_yet, behind}
+use Rattle.codec.proofs.ShapesLoops.{nothing_yet, behind}
 
 -- An exact shape gives as many numbers as it is wide.
 pub read_long : {shape : Shape} {bytes ns : List ℕ} {at next : ℕ} → Exact shape → Bytes bytes → shape.read bytes at ≡ got ns next → length ns ≡ shape.width

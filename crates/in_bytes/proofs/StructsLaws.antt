@@ -19,17 +19,17 @@ use Rattle.model.specs.Store.{stored, listed}
 use Rattle.host.specs.Layout as layout
 use Rattle.host.specs.Read.{record_of, event_of, record_fits}
 use Rattle.host.specs.Write.{signal_numbers, visits_numbers, streak_numbers, result_numbers, head_numbers, record_numbers, marked, event_numbers}
-use Rattle.host.specs.WriteLaws.{Whole, length_head, length_signal, length_visits, length_streak, length_result, length_record, flat_size, record_laid, head_stored}
-use Rattle.host.specs.Cases.{small, name_small, code_small}
+use Rattle.host.proofs.WriteLaws.{Whole, length_head, length_signal, length_visits, length_streak, length_result, length_record, flat_size, record_laid, head_stored}
+use Rattle.host.proofs.Cases.{small, name_small, code_small}
 use Rattle.host.proofs.Round.{record_back, fits_read, event_field}
 use Rattle.host.proofs.RecordSame.{record_back_whole}
 use Rattle.codec.specs.Numbers.{all_below}
 use Rattle.codec.specs.Stages.{Stage, numbers, column, beside, staged}
 use Rattle.codec.specs.Slots.{slot, slots}
-use Rattle.codec.specs.SlotsLaws.{slots_width}
+use Rattle.codec.proofs.SlotsLaws.{slots_width}
 use Rattle.codec.specs.Exact.{Bytes}
 use Rattle.in_bytes.specs.Run.{single_numbers, stored_signals, all_visits, all_streaks, all_results, run}
-use Rattle.in_bytes.specs.RunLaws.{run_width}
+use Rattle.in_bytes.proofs.RunLaws.{run_width}
 use Rattle.in_bytes.specs.Event.{event, event_call, event_fits}
 use Rattle.in_bytes.specs.Boundary.{done, write_run, write_event, read_run, read_event}
 use Rattle.in_bytes.proofs.BothWays.{passed, run_read, run_back, run_only, event_read, event_back as numbers_back, event_only as numbers_only}

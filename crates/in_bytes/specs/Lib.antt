@@ -7,8 +7,3 @@ pub mod Answer
 pub mod Boundary
 pub mod Structs
 pub mod CallStored
--- laws
-pub mod StagesLoops
-pub mod RunLaws
-pub mod RunUsed
-pub mod BoundaryLaws

@@ -15,7 +15,7 @@ use Rattle.host.specs.Fits.{Number}
 use Rattle.host.specs.Layout.{written, bad_call, bad_record, answer_kind}
 use Rattle.host.specs.Read.{at, has_record, record_of, call_of, call_fits, record_fits}
 use Rattle.host.specs.Host.{receipt}
-use Rattle.host.specs.HostLaws.{receipt_not_3, receipt_by_call}
+use Rattle.host.proofs.HostLaws.{receipt_not_3, receipt_by_call}
 use Rattle.shipped.proofs.OneCall.{kind_of, RecordBack, Told, told}
 use Rattle.shipped.specs.Shipped.{Made, is_answered, answer_in, record_in, Standing, nothing, numbers, standing, Gets, Follows, RightLengths, Ran, entry, entries, calls}
 

@@ -12,11 +12,11 @@ use Rattle.host.specs.Layout as layout
 use Rattle.codec.specs.Read.{got, onward}
 use Rattle.codec.specs.Numbers.{bytes_of, numbers_at, all_below, part}
 use Rattle.codec.specs.Stages.{numbers, column, beside, staged}
-use Rattle.codec.specs.Exact.{bytes_append}
-use Rattle.codec.specs.NumbersLaws.{numbers_exact}
-use Rattle.codec.specs.ColumnsLaws.{tidy_column, bytes_few}
+use Rattle.codec.proofs.ExactLaws.{bytes_append}
+use Rattle.codec.proofs.NumbersLaws.{numbers_exact}
+use Rattle.codec.proofs.ColumnsLaws.{tidy_column, bytes_few}
 use Rattle.in_bytes.specs.Run.{run}
-use Rattle.in_bytes.specs.RunLaws.{run_width, run_few}
+use Rattle.in_bytes.proofs.RunLaws.{run_width, run_few}
 use Rattle.in_bytes.specs.Answer.{next, want, answer}
 use Rattle.shipped.specs.InBytes.{behind, run_in_answer}
 

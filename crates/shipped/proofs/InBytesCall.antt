@@ -16,12 +16,12 @@ use Rattle.codec.specs.Read.{Read, got, bad, onward}
 use Rattle.codec.specs.Leb.{groups, leb128}
 use Rattle.codec.specs.Numbers.{bytes_of, numbers_at}
 use Rattle.codec.specs.Stages.{numbers, beside, Stage, staged}
-use Rattle.codec.specs.Exact.{not_bad}
-use Rattle.codec.specs.ReadLaws.{both_read}
+use Rattle.codec.proofs.ExactLaws.{not_bad}
+use Rattle.codec.proofs.ReadLaws.{both_read}
 use Rattle.in_bytes.specs.Sheet.{sheet as sheet_shape}
 use Rattle.in_bytes.proofs.SheetLaws.{sheet_exact, sheet_width}
 use Rattle.in_bytes.specs.Run.{run}
-use Rattle.in_bytes.specs.RunLaws.{run_exact, run_width}
+use Rattle.in_bytes.proofs.RunLaws.{run_exact, run_width}
 use Rattle.in_bytes.specs.Call.{mark, given, event_numbers, answered, answers, rest as rest_shape, limits as limits_stage, the_sheet, the_rest, call, sheet_in, without_sheet, run_in, numbers_in}
 use Rattle.in_bytes.specs.Boundary.{said, unread, ended, whole, on_numbers, decide}
 use Rattle.shipped.specs.Shipped.{Standing as Numbers, nothing as no_numbers, numbers as numbers_stand}

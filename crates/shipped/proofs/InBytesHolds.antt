@@ -24,12 +24,12 @@ use Rattle.codec.specs.Read.{got}
 use Rattle.codec.specs.Numbers.{bytes_of, all_below}
 use Rattle.in_bytes.specs.Sheet.{sheet as sheet_shape}
 use Rattle.in_bytes.specs.Run.{run as run_shape}
-use Rattle.in_bytes.specs.RunLaws.{run_exact}
+use Rattle.in_bytes.proofs.RunLaws.{run_exact}
 use Rattle.in_bytes.specs.Call.{without_sheet, run_in, numbers_in}
 use Rattle.in_bytes.specs.Answer.{answer as answer_shape}
 use Rattle.in_bytes.proofs.AnswerLaws.{answer_exact}
 use Rattle.in_bytes.specs.Boundary.{bad_bytes, short, no_item, done, packed, returned as returned_by, left, into, Decided, said, unread, decide, told as told_of}
-use Rattle.in_bytes.specs.BoundaryLaws.{all_back}
+use Rattle.in_bytes.proofs.BoundaryLaws.{all_back}
 use Rattle.shipped.specs.Shipped.{Standing as Numbers, nothing as no_numbers, numbers as numbers_stand}
 use Rattle.shipped.specs.Shipped as shipped
 use Rattle.shipped.proofs.Refusals.{KnownAnswer}

@@ -13,15 +13,15 @@ use Rattle.workflow.specs.Layout.{numbers as sheet_length}
 use Rattle.host.specs.Layout as layout
 use Rattle.host.specs.Read.{has_record, record_fits}
 use Rattle.host.specs.Host.{receipt}
-use Rattle.host.specs.HostLaws.{receipt_done}
+use Rattle.host.proofs.HostLaws.{receipt_done}
 use Rattle.codec.specs.Read.{got, onward}
 use Rattle.codec.specs.Numbers.{bytes_of, numbers_at, all_below}
 use Rattle.codec.specs.Stages.{numbers, column, beside, Stage, staged}
-use Rattle.codec.specs.Zeros.{padded_long}
-use Rattle.codec.specs.ColumnsLaws.{column_read}
+use Rattle.codec.proofs.Zeros.{padded_long}
+use Rattle.codec.proofs.ColumnsLaws.{column_read}
 use Rattle.in_bytes.specs.Sheet.{sheet as sheet_shape}
 use Rattle.in_bytes.proofs.SheetLaws.{sheet_exact}
-use Rattle.in_bytes.specs.RunLaws.{run_exact, run_width}
+use Rattle.in_bytes.proofs.RunLaws.{run_exact, run_width}
 use Rattle.in_bytes.specs.Call.{mark, given, event_numbers, answered, answers, rest as rest_shape, limits as limits_stage, the_sheet, the_rest, call, without_sheet, run_in, numbers_in}
 use Rattle.in_bytes.specs.Boundary.{unread, ended, whole, on_numbers, decide}
 use Rattle.shipped.specs.Shipped.{Standing as Numbers, nothing as no_numbers, numbers as numbers_stand}

@@ -17,7 +17,7 @@ use Rattle.host.specs.Layout.{written, answer_kind, answer_record}
 use Rattle.host.specs.Read.{at, has_record, record_of, call_of, call_fits, record_fits}
 use Rattle.host.specs.Write.{record_numbers, decision_numbers}
 use Rattle.host.specs.Host.{receipt, answered}
-use Rattle.host.specs.HostLaws.{receipt_call, receipt_record}
+use Rattle.host.proofs.HostLaws.{receipt_call, receipt_record}
 use Rattle.host.specs.ReadAnswer.{answer_of_numbers}
 use Rattle.host.proofs.Round.{fits_read, call_fits_read}
 use Rattle.host.proofs.RoundBack.{record_back_of, numbers_fit}

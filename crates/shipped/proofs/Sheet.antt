@@ -25,7 +25,7 @@ use Rattle.graph.specs.Verdict.{verdict}
 use Rattle.kernel.specs.declared.Call.{Call}
 use Rattle.kernel.specs.Call.{Last, admission}
 use Rattle.host.specs.Fits.{Number, Name, Code}
-use Rattle.host.specs.Lists.{all_span, every_all}
+use Rattle.host.proofs.Lists.{all_span, every_all}
 
 -- The two ceilings, the details of fail nodes and the loop limits are numbers of 32 bits. Everything else of a sheet that a record can hold is
 -- bounded by its form and its rules.

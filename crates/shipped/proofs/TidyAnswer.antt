@@ -19,15 +19,15 @@ use Rattle.kernel.specs.Decision.{decision_of}
 use Rattle.demand3.specs.Tidy.{Tidies}
 use Rattle.demand3.specs.Single.{Proper}
 use Rattle.host.specs.Layout as layout
-use Rattle.host.specs.Lists.{length_padded}
+use Rattle.host.proofs.Lists.{length_padded}
 use Rattle.host.specs.Write.{note_numbers, ending_numbers, record_numbers, state_numbers, decision_numbers}
-use Rattle.host.specs.WriteLaws.{flat_size, length_answer, length_note, length_ending}
+use Rattle.host.proofs.WriteLaws.{flat_size, length_answer, length_note, length_ending}
 use Rattle.codec.specs.Numbers.{all_below}
 use Rattle.codec.specs.Stages.{Stage, numbers, column, staged, all_zero}
 use Rattle.in_bytes.specs.Run.{run}
 use Rattle.in_bytes.specs.Answer.{counted_rows, the_run, answer}
 use Rattle.in_bytes.specs.Answer as bytes
-use Rattle.in_bytes.specs.RunLaws.{run_exact}
+use Rattle.in_bytes.proofs.RunLaws.{run_exact}
 use Rattle.shipped.proofs.TidyRows.{every_parts, stage_tidy, no_stage_tidy, numbers_tidy, rows_zero, rows_column}
 use Rattle.shipped.proofs.TidyRecord.{tidies_tidy, record_tidy}
 

@@ -19,13 +19,13 @@ use Rattle.snapshot.specs.Check.{result_fits, result_zero, streak_fits, streak_z
 use Rattle.demand3.specs.Tidy.{Sized, Tidies}
 use Rattle.demand3.proofs.Tidy.{tidy_of}
 use Rattle.host.specs.Layout as layout
-use Rattle.host.specs.Lists.{every_all}
+use Rattle.host.proofs.Lists.{every_all}
 use Rattle.host.specs.Write.{signal_numbers, visits_numbers, streak_numbers, result_numbers, head_numbers, record_numbers}
-use Rattle.host.specs.WriteLaws.{Whole, length_head, length_signal, length_visits, length_streak, length_result, flat_size, head_stored, record_laid}
+use Rattle.host.proofs.WriteLaws.{Whole, length_head, length_signal, length_visits, length_streak, length_result, flat_size, head_stored, record_laid}
 use Rattle.codec.specs.Numbers.{all_below}
 use Rattle.codec.specs.Stages.{numbers, column, all_zero}
 use Rattle.codec.specs.Slots.{slots}
-use Rattle.codec.specs.SlotsLaws.{slots_width}
+use Rattle.codec.proofs.SlotsLaws.{slots_width}
 use Rattle.in_bytes.specs.Run.{single_numbers, stored_signals, all_visits, all_streaks, all_results, run}
 use Rattle.shipped.proofs.TidyRows.{every_parts, stage_tidy, no_stage_tidy, numbers_tidy, rows_zero, rows_column, rows_slots}
 

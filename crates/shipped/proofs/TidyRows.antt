@@ -16,7 +16,7 @@ use Rattle.laws.specs.Splice.{length_flat}
 use Rattle.codec.specs.Numbers.{all_below}
 use Rattle.codec.specs.Stages.{Shape, Stage, numbers, column, beside, widths, staged, all_zero}
 use Rattle.codec.specs.Slots.{slot, slots}
-use Rattle.codec.specs.Parts.{every_take}
+use Rattle.codec.proofs.Parts.{every_take}
 
 -- All of two lists pass: so do those of each.
 pub every_parts : {A : Type 0} (p : A → Bool) (xs ys : List A) → every p (xs ++ ys) ≡ true → (every p xs ≡ true) × (every p ys ≡ true)

@@ -8,10 +8,10 @@ use Rattle.laws.specs.Bool.{both, join}
 use Rattle.laws.specs.Every.{every, every_append}
 use Rattle.laws.specs.All.{All}
 use Rattle.host.specs.Fits.{Number}
-use Rattle.host.specs.Lists.{every_all}
+use Rattle.host.proofs.Lists.{every_all}
 use Rattle.codec.specs.Numbers.{all_below}
 use Rattle.codec.specs.Stages.{all_zero, numbers, column, beside, columns, staged}
-use Rattle.codec.specs.ColumnsLaws.{tidy_column}
+use Rattle.codec.proofs.ColumnsLaws.{tidy_column}
 use Rattle.in_bytes.specs.Sheet.{rooms, used, sheet}
 
 module _ (top : ℕ) (some : 0 < top) where

@@ -11,7 +11,7 @@ use Rattle.host.specs.Layout.{written, answer_kind, answer_record, answer_length
 use Rattle.host.specs.Read.{at, has_record, record_of, call_of}
 use Rattle.host.specs.ReadAnswer.{answer_of_numbers}
 use Rattle.host.specs.Host.{receipt, answered}
-use Rattle.host.specs.HostLaws.{Lent}
+use Rattle.host.specs.Host.{Lent}
 
 -- ONE CALL of the function: the length that is passed for the sheet; the numbers of the call, the run record and the buffer that are lent to it; the number that it
 -- returns; and the buffer after it.

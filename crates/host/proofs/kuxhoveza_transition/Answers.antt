@@ -1,8 +1,8 @@
 use mathlib.Core.Path.{sym, ◌∙◌}
 use native.Mathlib.Omega.{arith}
-use Rattle.host.specs.HostLaws.{lent, receipt_turned, receipt_read, made, left, untouched}
+use Rattle.host.proofs.HostLaws.{lent, receipt_turned, receipt_read, made, left, untouched}
 use Rattle.host.proofs.AnswerBack.{full}
-use Rattle.host.specs.WriteRows.{counted}
+use Rattle.host.proofs.WriteRowsLaws.{counted}
 use Rattle.host.proofs.kuxhoveza_transition.Goals as goal
 
 pub returns-then-lengths-ne-WRITTEN : goal.returns-then-lengths-ne-WRITTEN

@@ -2,7 +2,7 @@ use mathlib.Core.Path.{◌≡◌, sym, ◌∙◌}
 use Prim.Native.Nat.{ℕ}
 use lib.ListN.{length}
 use native.Mathlib.Omega.{arith}
-use Rattle.host.specs.HostLaws.{other_sheet, no_room, has_both, judged_two, unjudged}
+use Rattle.host.proofs.HostLaws.{other_sheet, no_room, has_both, judged_two, unjudged}
 use Rattle.host.proofs.kuxhoveza_verdict.Goals as goal
 
 pub returns-then-sheet_len-ne-NUMBERS : goal.returns-then-sheet_len-ne-NUMBERS

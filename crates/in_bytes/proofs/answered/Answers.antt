@@ -3,7 +3,7 @@ use native.Mathlib.Omega.{arith}
 use lib.ListN.{get_or}
 use Rattle.codec.specs.Numbers.{bytes_of}
 use Rattle.in_bytes.specs.Answer.{answer}
-use Rattle.in_bytes.specs.BoundaryLaws.{refused_by, done_by, into_short, into_done, told_refused, told_into}
+use Rattle.in_bytes.proofs.BoundaryLaws.{refused_by, done_by, into_short, into_done, told_refused, told_into}
 use Rattle.in_bytes.proofs.answered.Goals as goal
 
 pub returns-then-answer-eq3 : goal.returns-then-answer-eq3

@@ -3,7 +3,7 @@ use mathlib.Core.Path.{sym, ◌∙◌}
 use native.Mathlib.Omega.{arith}
 use Rattle.codec.specs.Exact.{Bytes}
 use Rattle.in_bytes.specs.Call.{call}
-use Rattle.in_bytes.specs.BoundaryLaws.{not_whole, is_whole}
+use Rattle.in_bytes.proofs.BoundaryLaws.{not_whole, is_whole}
 use Rattle.in_bytes.proofs.DecideLaws.{says_unread, says_numbers, decide_bad, decide_parts, call_lengths}
 use Rattle.in_bytes.proofs.decide.Goals as goal
 

@@ -4,7 +4,7 @@ use native.Mathlib.Omega.{arith}
 use Rattle.codec.specs.Exact.{Bytes}
 use Rattle.in_bytes.specs.Call.{call_on}
 use Rattle.in_bytes.proofs.CallSteps.{on_bad, limited, limits_blank, on_read}
-use Rattle.in_bytes.specs.BoundaryLaws.{not_whole, is_whole}
+use Rattle.in_bytes.proofs.BoundaryLaws.{not_whole, is_whole}
 use Rattle.in_bytes.proofs.DecideLaws.{ended_bad, says_unread, says_numbers, on_unread, on_parts, on_lengths}
 use Rattle.in_bytes.proofs.decide_on.Goals as goal
 

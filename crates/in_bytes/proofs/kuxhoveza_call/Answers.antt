@@ -1,6 +1,6 @@
 use mathlib.Core.Path.{ap, ◌∙◌}
 use Rattle.in_bytes.specs.Boundary.{Outcome, returned, left, decide}
-use Rattle.in_bytes.specs.BoundaryLaws.{refused_by}
+use Rattle.in_bytes.proofs.BoundaryLaws.{refused_by}
 use Rattle.in_bytes.proofs.DecideLaws.{told_said, told_unread}
 use Rattle.in_bytes.proofs.kuxhoveza_call.Goals as goal
 

@@ -1,6 +1,6 @@
 use mathlib.Core.Path.{sym, ap, ◌∙◌}
 use Rattle.in_bytes.specs.Boundary.{Outcome, returned, left, decide_on}
-use Rattle.in_bytes.specs.BoundaryLaws.{refused_by}
+use Rattle.in_bytes.proofs.BoundaryLaws.{refused_by}
 use Rattle.in_bytes.proofs.DecideLaws.{on_other, on_told, told_said, told_unread}
 use Rattle.in_bytes.proofs.kuxhoveza_call_on.Goals as goal
 

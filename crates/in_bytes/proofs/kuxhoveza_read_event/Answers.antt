@@ -8,7 +8,7 @@ use Rattle.codec.specs.Exact.{Bytes}
 use Rattle.in_bytes.specs.Event.{event, event_fits}
 use Rattle.in_bytes.proofs.CallLaws.{event_exact}
 use Rattle.in_bytes.proofs.DecideLaws.{event_place, event_stored, event_width}
-use Rattle.in_bytes.specs.BoundaryLaws.{refused_by, done_by, not_whole, is_whole, all_read, taken_bad, taken_unfit, taken_done, event_room, event_taken}
+use Rattle.in_bytes.proofs.BoundaryLaws.{refused_by, done_by, not_whole, is_whole, all_read, taken_bad, taken_unfit, taken_done, event_room, event_taken}
 use Rattle.std.proofs.lemmas.Bool.{not_from_true, not_from_false}
 use Rattle.in_bytes.proofs.kuxhoveza_read_event.Goals as goal
 

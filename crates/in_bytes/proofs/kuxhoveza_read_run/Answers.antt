@@ -7,8 +7,8 @@ use Rattle.laws.specs.Splice.{splice}
 use Rattle.host.specs.Read.{record_fits}
 use Rattle.codec.specs.Exact.{Bytes}
 use Rattle.in_bytes.specs.Run.{run}
-use Rattle.in_bytes.specs.RunLaws.{run_exact, run_width}
-use Rattle.in_bytes.specs.BoundaryLaws.{refused_by, done_by, not_whole, is_whole, all_read, tidy_read, taken_bad, taken_unfit, taken_done, run_room, run_taken}
+use Rattle.in_bytes.proofs.RunLaws.{run_exact, run_width}
+use Rattle.in_bytes.proofs.BoundaryLaws.{refused_by, done_by, not_whole, is_whole, all_read, tidy_read, taken_bad, taken_unfit, taken_done, run_room, run_taken}
 use Rattle.std.proofs.lemmas.Bool.{not_from_true, not_from_false}
 use Rattle.in_bytes.proofs.kuxhoveza_read_run.Goals as goal
 

@@ -7,7 +7,7 @@ use Rattle.laws.specs.Splice.{splice}
 use Rattle.codec.specs.Exact.{Bytes}
 use Rattle.in_bytes.specs.Sheet.{sheet}
 use Rattle.in_bytes.proofs.SheetLaws.{sheet_exact, sheet_width}
-use Rattle.in_bytes.specs.BoundaryLaws.{refused_by, done_by, not_whole, is_whole, all_read, taken_bad, taken_done, sheet_room, sheet_taken}
+use Rattle.in_bytes.proofs.BoundaryLaws.{refused_by, done_by, not_whole, is_whole, all_read, taken_bad, taken_done, sheet_room, sheet_taken}
 use Rattle.std.proofs.lemmas.Bool.{not_from_true, not_from_false}
 use Rattle.in_bytes.proofs.kuxhoveza_read_sheet.Goals as goal
 

@@ -6,7 +6,7 @@ use lib.ListN.{length}
 use borrow.Author.Tests.{not-true, not-false}
 use Rattle.laws.specs.Splice.{splice}
 use Rattle.codec.specs.Numbers.{bytes_of}
-use Rattle.in_bytes.specs.BoundaryLaws.{part_all, refused_by, done_by, into_short, into_done, event_other, event_unfit, event_into}
+use Rattle.in_bytes.proofs.BoundaryLaws.{part_all, refused_by, done_by, into_short, into_done, event_other, event_unfit, event_into}
 use Rattle.std.proofs.lemmas.Bool.{not_from_true, not_from_false}
 use Rattle.in_bytes.proofs.kuxhoveza_write_event.Goals as goal
 

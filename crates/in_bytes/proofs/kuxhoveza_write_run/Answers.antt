@@ -7,7 +7,7 @@ use lib.ListN.{length}
 use Rattle.laws.specs.Splice.{splice}
 use Rattle.codec.specs.Numbers.{bytes_of}
 use Rattle.in_bytes.specs.Run.{run}
-use Rattle.in_bytes.specs.BoundaryLaws.{part_all, refused_by, done_by, into_short, into_done, run_other, run_unfit, run_untidy, run_into}
+use Rattle.in_bytes.proofs.BoundaryLaws.{part_all, refused_by, done_by, into_short, into_done, run_other, run_unfit, run_untidy, run_into}
 use Rattle.std.proofs.lemmas.Bool.{not_from_true, not_from_false}
 use Rattle.in_bytes.proofs.kuxhoveza_write_run.Goals as goal
 

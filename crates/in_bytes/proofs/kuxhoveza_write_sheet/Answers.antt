@@ -3,7 +3,7 @@ use native.Mathlib.Omega.{arith}
 use borrow.Author.Tests.{not-true, not-false}
 use Rattle.codec.specs.Numbers.{bytes_of}
 use Rattle.in_bytes.specs.Sheet.{sheet}
-use Rattle.in_bytes.specs.BoundaryLaws.{refused_by, done_by, into_short, into_done, sheet_other, sheet_untidy, sheet_into}
+use Rattle.in_bytes.proofs.BoundaryLaws.{refused_by, done_by, into_short, into_done, sheet_other, sheet_untidy, sheet_into}
 use Rattle.std.proofs.lemmas.Bool.{not_from_true, not_from_false}
 use Rattle.in_bytes.proofs.kuxhoveza_write_sheet.Goals as goal
 

@@ -2,7 +2,7 @@ use Prim.Native.Nat.{◌+◌, ◌-◌, ◌^◌}
 use lib.ListN.{length}
 use Rattle.codec.specs.Numbers.{bytes_of, part}
 use Rattle.codec.specs.Stages.{total, columns}
-use Rattle.codec.specs.ColumnsLoops.{CountingColumns}
+use Rattle.codec.proofs.ColumnsLoops.{CountingColumns}
 use Rattle.codec.proofs.columns.columns_size.Given as goal
 
 abbrev pub invariant-loop-c : goal.invariant-loop-c

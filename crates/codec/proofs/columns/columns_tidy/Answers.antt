@@ -2,7 +2,7 @@ use mathlib.Core.Path.{ap}
 use mathlib.Core.Bool.{not}
 use native.Mathlib.Omega.{arith}
 use Prim.Native.Nat.{◌^◌}
-use Rattle.codec.specs.ColumnsLoops.{test_start, test_room, test_over, test_dirty, test_more, test_end}
+use Rattle.codec.proofs.ColumnsLoops.{test_start, test_room, test_over, test_dirty, test_more, test_end}
 use Rattle.codec.proofs.columns.columns_tidy.Goals as goal
 
 pub loop-c-init : goal.loop-c-init

@@ -2,7 +2,7 @@ use Prim.Native.Nat.{◌+◌, ◌-◌, ◌^◌}
 use lib.ListN.{length}
 use Rattle.codec.specs.Numbers.{part}
 use Rattle.codec.specs.Stages.{total, columns}
-use Rattle.codec.specs.ColumnsLoops.{TestingColumns}
+use Rattle.codec.proofs.ColumnsLoops.{TestingColumns}
 use Rattle.codec.proofs.columns.columns_tidy.Given as goal
 
 abbrev pub invariant-loop-c : goal.invariant-loop-c

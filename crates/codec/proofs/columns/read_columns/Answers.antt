@@ -1,8 +1,8 @@
 use mathlib.Core.Path.{◌∙◌}
 use native.Mathlib.Omega.{arith}
 use Prim.Native.Nat.{◌^◌}
-use Rattle.codec.specs.StoredLaws.{bad_place, bad_stored}
-use Rattle.codec.specs.ColumnsLoops.{read_start, read_long, read_room, read_over, read_bad, read_more, read_place, read_stored}
+use Rattle.codec.proofs.StoredLaws.{bad_place, bad_stored}
+use Rattle.codec.proofs.ColumnsLoops.{read_start, read_long, read_room, read_over, read_bad, read_more, read_place, read_stored}
 use Rattle.codec.proofs.columns.read_columns.Goals as goal
 
 pub loop-c-init : goal.loop-c-init

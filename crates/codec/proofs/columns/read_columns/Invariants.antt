@@ -1,7 +1,7 @@
 use Prim.Native.Nat.{◌-◌, ◌^◌}
 use lib.ListN.{length}
 use Rattle.codec.specs.Stages.{columns}
-use Rattle.codec.specs.ColumnsLoops.{ReadingColumns}
+use Rattle.codec.proofs.ColumnsLoops.{ReadingColumns}
 use Rattle.codec.proofs.columns.read_columns.Given as goal
 
 abbrev pub invariant-loop-c : goal.invariant-loop-c

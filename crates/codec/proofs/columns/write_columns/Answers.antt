@@ -1,6 +1,6 @@
 use native.Mathlib.Omega.{arith}
 use Prim.Native.Nat.{◌^◌}
-use Rattle.codec.specs.ColumnsLoops.{tidy_start, tidy_room, tidy_low, write_start, write_long, write_room, write_more, write_place, write_end}
+use Rattle.codec.proofs.ColumnsLoops.{tidy_start, tidy_room, tidy_low, write_start, write_long, write_room, write_more, write_place, write_end}
 use Rattle.codec.proofs.columns.write_columns.Goals as goal
 
 pub loop-c-init : goal.loop-c-init

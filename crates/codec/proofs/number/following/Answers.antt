@@ -2,8 +2,8 @@ use mathlib.Core.Path.{refl}
 use Prim.Native.Nat.{◌-◌}
 use native.Mathlib.Omega.{arith}
 use Rattle.std.proofs.Common.{rules}
-use Rattle.codec.specs.GroupsLaws.{following_start, following_scale, following_ninth, following_small, following_cut, following_zero, following_last, following_more, following_one, following_over}
-use Rattle.codec.specs.StoredLaws.{bad_number, got_number}
+use Rattle.codec.proofs.GroupsLaws.{following_start, following_scale, following_ninth, following_small, following_cut, following_zero, following_last, following_more, following_one, following_over}
+use Rattle.codec.proofs.StoredLaws.{bad_number, got_number}
 use Rattle.codec.proofs.number.following.Goals as goal
 
 pub loop-i-init : goal.loop-i-init

@@ -1,6 +1,6 @@
 use Prim.Native.Nat.{◌-◌}
 use Rattle.codec.specs.Groups.{followed}
-use Rattle.codec.specs.GroupsLaws.{Following}
+use Rattle.codec.proofs.GroupsLaws.{Following}
 use Rattle.codec.proofs.number.following.Given as goal
 
 abbrev pub invariant-loop-i : goal.invariant-loop-i

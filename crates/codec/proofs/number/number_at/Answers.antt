@@ -1,8 +1,8 @@
 use mathlib.Core.Path.{ap, ◌∙◌}
 use native.Mathlib.Omega.{arith}
 use Rattle.codec.specs.Stored.{number_of}
-use Rattle.codec.specs.GroupsLaws.{first_cut, first_last, first_more}
-use Rattle.codec.specs.StoredLaws.{bad_number, got_number}
+use Rattle.codec.proofs.GroupsLaws.{first_cut, first_last, first_more}
+use Rattle.codec.proofs.StoredLaws.{bad_number, got_number}
 use Rattle.codec.proofs.number.number_at.Goals as goal
 
 pub returns-then-bytes-at : goal.returns-then-bytes-at

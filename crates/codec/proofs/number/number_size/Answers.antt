@@ -1,6 +1,6 @@
 use native.Mathlib.Omega.{arith}
 use Rattle.std.proofs.Common.{rules}
-use Rattle.codec.specs.GroupsLaws.{counting_start, counting_more, counting_end}
+use Rattle.codec.proofs.GroupsLaws.{counting_start, counting_more, counting_end}
 use Rattle.codec.proofs.number.number_size.Goals as goal
 
 pub loop-rest-init : goal.loop-rest-init

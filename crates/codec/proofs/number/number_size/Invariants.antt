@@ -1,4 +1,4 @@
-use Rattle.codec.specs.GroupsLaws.{Counting}
+use Rattle.codec.proofs.GroupsLaws.{Counting}
 use Rattle.codec.proofs.number.number_size.Given as goal
 
 abbrev pub invariant-loop-rest : goal.invariant-loop-rest

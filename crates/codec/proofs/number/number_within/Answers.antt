@@ -1,6 +1,6 @@
 use mathlib.Core.Path.{sym, ap, ◌∙◌}
 use Rattle.codec.specs.Stored.{number_of}
-use Rattle.codec.specs.NumbersLaws.{below_any}
+use Rattle.codec.proofs.NumbersLaws.{below_any}
 use Rattle.codec.proofs.number.number_within.Goals as goal
 
 pub returns-then-small : goal.returns-then-small

@@ -1,9 +1,9 @@
 use mathlib.Core.Path.{sym, ◌∙◌}
 use Prim.Native.Nat.{◌^◌}
 use native.Mathlib.Omega.{arith}
-use Rattle.codec.specs.NumbersLaws.{below_got, below_over, below_bad}
-use Rattle.codec.specs.GroupsLaws.{first_cut, first_last, first_more}
-use Rattle.codec.specs.StoredLaws.{value_got, value_bad, bad_number, got_number}
+use Rattle.codec.proofs.NumbersLaws.{below_got, below_over, below_bad}
+use Rattle.codec.proofs.GroupsLaws.{first_cut, first_last, first_more}
+use Rattle.codec.proofs.StoredLaws.{value_got, value_bad, bad_number, got_number}
 use Rattle.codec.proofs.number.small_at.Goals as goal
 
 pub returns-then-bytes-at : goal.returns-then-bytes-at

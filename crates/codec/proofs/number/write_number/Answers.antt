@@ -3,7 +3,7 @@ use native.Mathlib.Omega.{arith}
 use Rattle.std.proofs.Common.{rules}
 use lib.ListN.{length}
 use Rattle.laws.specs.Splice.{length_splice}
-use Rattle.codec.specs.GroupsLaws.{writing_start, writing_more, writing_below, writing_room, writing_last, writing_end}
+use Rattle.codec.proofs.GroupsLaws.{writing_start, writing_more, writing_below, writing_room, writing_last, writing_end}
 use Rattle.codec.proofs.number.write_number.Goals as goal
 
 pub loop-rest-init : goal.loop-rest-init

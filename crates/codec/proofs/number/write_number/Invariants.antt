@@ -2,7 +2,7 @@ use Prim.Native.Nat.{◌+◌}
 use lib.ListN.{length}
 use Rattle.laws.specs.Splice.{splice}
 use Rattle.codec.specs.Leb.{leb128}
-use Rattle.codec.specs.GroupsLaws.{Writing}
+use Rattle.codec.proofs.GroupsLaws.{Writing}
 use Rattle.codec.proofs.number.write_number.Given as goal
 
 abbrev pub invariant-loop-rest : goal.invariant-loop-rest

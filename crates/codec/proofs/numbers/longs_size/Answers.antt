@@ -1,5 +1,5 @@
 use native.Mathlib.Omega.{arith}
-use Rattle.codec.specs.NumbersLoops.{sizing_start, sizing_more, sizing_end}
+use Rattle.codec.proofs.NumbersLoops.{sizing_start, sizing_more, sizing_end}
 use Rattle.codec.proofs.numbers.longs_size.Goals as goal
 
 pub loop-i-init : goal.loop-i-init

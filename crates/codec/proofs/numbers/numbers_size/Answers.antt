@@ -3,7 +3,7 @@ use Prim.Native.Nat.{ℕ}
 use native.Mathlib.Omega.{arith}
 use lib.ListN.{length}
 use Rattle.codec.specs.Leb.{leb128}
-use Rattle.codec.specs.NumbersLoops.{sizing_start, sizing_more, sizing_end}
+use Rattle.codec.proofs.NumbersLoops.{sizing_start, sizing_more, sizing_end}
 use Rattle.codec.proofs.numbers.numbers_size.Goals as goal
 
 pub loop-i-init : goal.loop-i-init

@@ -1,5 +1,5 @@
 use Prim.Native.Nat.{◌-◌}
-use Rattle.codec.specs.NumbersLoops.{Sizing}
+use Rattle.codec.proofs.NumbersLoops.{Sizing}
 use Rattle.codec.proofs.numbers.numbers_size.Given as goal
 
 abbrev pub invariant-loop-i : goal.invariant-loop-i

@@ -1,6 +1,6 @@
 use native.Mathlib.Omega.{arith}
 use Rattle.laws.specs.Zeros.{dirt_start, dirt_more, dirt_end}
-use Rattle.codec.specs.NumbersLoops.{part_span}
+use Rattle.codec.proofs.NumbersLoops.{part_span}
 use Rattle.codec.proofs.numbers.numbers_zero.Goals as goal
 
 pub loop-i-init : goal.loop-i-init

@@ -1,6 +1,6 @@
 use Prim.Native.Nat.{◌-◌, ◌^◌}
 use Rattle.codec.specs.Numbers.{numbers_at}
-use Rattle.codec.specs.NumbersLoops.{Reading}
+use Rattle.codec.proofs.NumbersLoops.{Reading}
 use Rattle.codec.proofs.numbers.read_longs.Given as goal
 
 abbrev pub invariant-loop-i : goal.invariant-loop-i

@@ -1,8 +1,8 @@
 use Prim.Native.Nat.{◌^◌}
 use native.Mathlib.Omega.{arith}
-use Rattle.codec.specs.NumbersLaws.{tested_below}
-use Rattle.codec.specs.StoredLaws.{value_got, value_bad, bad_place, bad_stored, got_place, got_stored}
-use Rattle.codec.specs.NumbersLoops.{reading_start, reading_long, reading_bad, reading_more, reading_end}
+use Rattle.codec.proofs.NumbersLaws.{tested_below}
+use Rattle.codec.proofs.StoredLaws.{value_got, value_bad, bad_place, bad_stored, got_place, got_stored}
+use Rattle.codec.proofs.NumbersLoops.{reading_start, reading_long, reading_bad, reading_more, reading_end}
 use Rattle.codec.proofs.numbers.read_numbers.Goals as goal
 
 pub loop-i-init : goal.loop-i-init

@@ -1,6 +1,6 @@
 use mathlib.Core.Path.{refl}
 use native.Mathlib.Omega.{arith}
-use Rattle.codec.specs.NumbersLoops.{appending_start, appending_long, appending_room, appending_more, appending_place, appending_end}
+use Rattle.codec.proofs.NumbersLoops.{appending_start, appending_long, appending_room, appending_more, appending_place, appending_end}
 use Rattle.codec.proofs.numbers.write_longs.Goals as goal
 
 pub loop-i-init : goal.loop-i-init

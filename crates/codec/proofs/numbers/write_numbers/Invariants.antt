@@ -1,5 +1,5 @@
 use Prim.Native.Nat.{◌-◌}
-use Rattle.codec.specs.NumbersLoops.{Appending}
+use Rattle.codec.proofs.NumbersLoops.{Appending}
 use Rattle.codec.proofs.numbers.write_numbers.Given as goal
 
 abbrev pub invariant-loop-i : goal.invariant-loop-i

@@ -2,8 +2,8 @@ use mathlib.Core.Path.{◌≡◌, refl, ◌∙◌}
 use Prim.Native.Nat.{◌+◌, ◌-◌, ◌^◌}
 use native.Mathlib.Omega.{arith}
 use lib.ListN.{length-set}
-use Rattle.codec.specs.StoredLaws.{at_got, at_bad, value_got, value_bad, bad_place, bad_stored, got_place}
-use Rattle.codec.specs.SlotSteps.{no_lead, unused_read, unused_stored, used_bad, used_place, used_stored}
+use Rattle.codec.proofs.StoredLaws.{at_got, at_bad, value_got, value_bad, bad_place, bad_stored, got_place}
+use Rattle.codec.proofs.SlotSteps.{no_lead, unused_read, unused_stored, used_bad, used_place, used_stored}
 use Rattle.codec.proofs.slots.read_slot.Goals as goal
 
 pub returns-in_default : goal.returns-in_default

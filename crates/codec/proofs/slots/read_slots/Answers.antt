@@ -1,8 +1,8 @@
 use mathlib.Core.Path.{◌∙◌}
 use Prim.Native.Nat.{◌^◌}
 use native.Mathlib.Omega.{arith}
-use Rattle.codec.specs.StoredLaws.{at_got, at_bad, bad_place, bad_stored}
-use Rattle.codec.specs.SlotsLoops.{read_start, read_long, read_zero, read_room, read_bad, read_more, read_place, read_stored}
+use Rattle.codec.proofs.StoredLaws.{at_got, at_bad, bad_place, bad_stored}
+use Rattle.codec.proofs.SlotsLoops.{read_start, read_long, read_zero, read_room, read_bad, read_more, read_place, read_stored}
 use Rattle.codec.proofs.slots.read_slots.Goals as goal
 
 pub loop-n-init : goal.loop-n-init

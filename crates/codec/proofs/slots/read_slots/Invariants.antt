@@ -1,6 +1,6 @@
 use Prim.Native.Nat.{◌-◌, ◌^◌}
 use Rattle.codec.specs.Slots.{slots}
-use Rattle.codec.specs.SlotsLoops.{ReadingSlots}
+use Rattle.codec.proofs.SlotsLoops.{ReadingSlots}
 use Rattle.codec.proofs.slots.read_slots.Given as goal
 
 abbrev pub invariant-loop-n : goal.invariant-loop-n

@@ -1,6 +1,6 @@
 use Prim.Native.Nat.{◌^◌}
 use native.Mathlib.Omega.{arith}
-use Rattle.codec.specs.SlotSteps.{unused_size, used_size, here_few}
+use Rattle.codec.proofs.SlotSteps.{unused_size, used_size, here_few}
 use Rattle.codec.proofs.slots.slot_size.Goals as goal
 
 pub returns-then-xs-lead-eq0 : goal.returns-then-xs-lead-eq0

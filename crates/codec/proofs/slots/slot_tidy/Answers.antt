@@ -1,7 +1,7 @@
 use mathlib.Core.Path.{◌≡◌, sym, ◌∙◌}
 use Prim.Native.Nat.{suc, ◌+◌, ◌^◌}
 use native.Mathlib.Omega.{arith}
-use Rattle.codec.specs.SlotSteps.{unused_tidy, used_tidy}
+use Rattle.codec.proofs.SlotSteps.{unused_tidy, used_tidy}
 use Rattle.codec.proofs.slots.slot_tidy.Goals as goal
 
 pub returns-then-xs-lead-eq0 : goal.returns-then-xs-lead-eq0

@@ -1,6 +1,6 @@
 use Prim.Native.Nat.{◌^◌}
 use native.Mathlib.Omega.{arith}
-use Rattle.codec.specs.SlotsLoops.{room_here, count_start, count_few, count_more, count_end}
+use Rattle.codec.proofs.SlotsLoops.{room_here, count_start, count_few, count_more, count_end}
 use Rattle.codec.proofs.slots.slots_size.Goals as goal
 
 pub loop-n-init : goal.loop-n-init

@@ -2,7 +2,7 @@ use mathlib.Core.Path.{ap}
 use mathlib.Core.Bool.{not}
 use Prim.Native.Nat.{◌^◌}
 use native.Mathlib.Omega.{arith}
-use Rattle.codec.specs.SlotsLoops.{room_here, test_start, test_stop, test_more, test_end}
+use Rattle.codec.proofs.SlotsLoops.{room_here, test_start, test_stop, test_more, test_end}
 use Rattle.codec.proofs.slots.slots_tidy.Goals as goal
 
 pub loop-n-init : goal.loop-n-init

@@ -1,7 +1,7 @@
 use Prim.Native.Nat.{suc, ◌+◌, ◌*◌, ◌-◌, ◌^◌}
 use Rattle.codec.specs.Numbers.{part}
 use Rattle.codec.specs.Slots.{slots}
-use Rattle.codec.specs.SlotsLoops.{TestingSlots}
+use Rattle.codec.proofs.SlotsLoops.{TestingSlots}
 use Rattle.codec.proofs.slots.slots_tidy.Given as goal
 
 abbrev pub invariant-loop-n : goal.invariant-loop-n

@@ -1,6 +1,6 @@
 use Prim.Native.Nat.{◌^◌}
 use native.Mathlib.Omega.{arith}
-use Rattle.codec.specs.SlotSteps.{lead_fits, unused_written, front_fits, back_fits, used_written}
+use Rattle.codec.proofs.SlotSteps.{lead_fits, unused_written, front_fits, back_fits, used_written}
 use Rattle.codec.proofs.slots.write_slot.Goals as goal
 
 pub write_number-place-requires : goal.write_number-place-requires

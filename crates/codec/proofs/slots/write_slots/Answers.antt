@@ -1,6 +1,6 @@
 use Prim.Native.Nat.{◌^◌}
 use native.Mathlib.Omega.{arith}
-use Rattle.codec.specs.SlotsLoops.{room_here, write_start, write_long, write_room, write_more, write_place, write_end}
+use Rattle.codec.proofs.SlotsLoops.{room_here, write_start, write_long, write_room, write_more, write_place, write_end}
 use Rattle.codec.proofs.slots.write_slots.Goals as goal
 
 pub loop-n-init : goal.loop-n-init

@@ -1,7 +1,7 @@
 use Prim.Native.Nat.{suc, ◌+◌, ◌*◌, ◌-◌, ◌^◌}
 use Rattle.codec.specs.Numbers.{bytes_of, part}
 use Rattle.codec.specs.Slots.{slots}
-use Rattle.codec.specs.SlotsLoops.{WritingSlots}
+use Rattle.codec.proofs.SlotsLoops.{WritingSlots}
 use Rattle.codec.proofs.slots.write_slots.Given as goal
 
 abbrev pub invariant-loop-n : goal.invariant-loop-n

@@ -1,6 +1,6 @@
 use mathlib.Core.Path.{sym, ◌∙◌}
-use Rattle.host.specs.Cases.{both_of}
-use Rattle.host.specs.ByCount.{blank_zeros}
+use Rattle.host.proofs.Cases.{both_of}
+use Rattle.host.proofs.ByCountLaws.{blank_zeros}
 use Rattle.host.proofs.read.node_rows.Goals as goal
 
 pub returns-then-blank : goal.returns-then-blank

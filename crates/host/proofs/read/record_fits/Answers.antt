@@ -1,4 +1,4 @@
-use Rattle.host.specs.ByCount.{rows_fit}
+use Rattle.host.proofs.ByCountLaws.{rows_fit}
 use Rattle.host.proofs.read.record_fits.Goals as goal
 
 pub returns : goal.returns

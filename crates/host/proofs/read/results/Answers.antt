@@ -1,6 +1,6 @@
 use Rattle.std.proofs.Common.{rules}
 use mathlib.Core.Path.{refl}
-use Rattle.host.specs.ByCount.{rows_start, rows_next, rows_end}
+use Rattle.host.proofs.ByCountLaws.{rows_start, rows_next, rows_end}
 use Rattle.host.proofs.read.results.Goals as goal
 
 pub loop-i-preserved : goal.loop-i-preserved

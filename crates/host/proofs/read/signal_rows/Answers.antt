@@ -1,6 +1,6 @@
 use mathlib.Core.Path.{sym, ◌∙◌}
 use native.Mathlib.Omega.{arith}
-use Rattle.host.specs.ByCount.{blank_zeros}
+use Rattle.host.proofs.ByCountLaws.{blank_zeros}
 use Rattle.host.proofs.read.signal_rows.Goals as goal
 
 pub returns-then-blank : goal.returns-then-blank

@@ -1,5 +1,5 @@
 use Rattle.std.proofs.Common.{rules}
-use Rattle.host.specs.ByCount.{rows_start, rows_next, rows_end}
+use Rattle.host.proofs.ByCountLaws.{rows_start, rows_next, rows_end}
 use Rattle.host.proofs.read.signals.Goals as goal
 
 pub loop-i-preserved : goal.loop-i-preserved

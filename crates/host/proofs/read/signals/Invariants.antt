@@ -2,7 +2,7 @@ use Prim.Native.Nat.{◌-◌}
 use Rattle.model.specs.Record.{no_signal}
 use Rattle.host.specs.Layout.{store}
 use Rattle.host.specs.Read.{signal_of}
-use Rattle.host.specs.ByCount.{RowsRead}
+use Rattle.host.proofs.ByCountLaws.{RowsRead}
 use Rattle.host.proofs.read.signals.Given as goal
 
 -- the slots before i are read

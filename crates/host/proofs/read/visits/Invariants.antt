@@ -2,7 +2,7 @@ use Prim.Native.Nat.{◌-◌}
 use Rattle.model.specs.Record.{no_visits}
 use Rattle.host.specs.Layout.{nodes}
 use Rattle.host.specs.Read.{visits_of}
-use Rattle.host.specs.ByCount.{RowsRead}
+use Rattle.host.proofs.ByCountLaws.{RowsRead}
 use Rattle.host.proofs.read.visits.Given as goal
 
 -- the slots before i are read

@@ -4,7 +4,7 @@ use Prim.Native.Nat.{ℕ}
 use lib.ListN.{length-replicate}
 use Rattle.laws.specs.Splice.{write_start, write_end, flat_ones}
 use Rattle.host.specs.Layout.{answer_length}
-use Rattle.host.specs.WriteRows.{write_zero}
+use Rattle.host.proofs.WriteRowsLaws.{write_zero}
 use Rattle.host.proofs.write.clear.Goals as goal
 
 pub loop-i-init : goal.loop-i-init

@@ -4,8 +4,8 @@ use Rattle.std.proofs.Common.{rules}
 use Rattle.laws.specs.Arrays.{length_field}
 use Rattle.laws.specs.Splice.{splice_all}
 use Rattle.host.specs.Layout.{record_length}
-use Rattle.host.specs.Lists.{getD_replicate_same}
-use Rattle.host.specs.WriteLaws.{Whole, length_record}
+use Rattle.host.proofs.Lists.{getD_replicate_same}
+use Rattle.host.proofs.WriteLaws.{Whole, length_record}
 use Rattle.host.proofs.write.record_numbers.Goals as goal
 
 pub write_record-requires : goal.write_record-requires

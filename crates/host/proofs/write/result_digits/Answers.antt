@@ -1,4 +1,4 @@
-use Rattle.host.specs.WriteRows.{result_is}
+use Rattle.host.proofs.WriteRowsLaws.{result_is}
 use Rattle.host.proofs.write.result_digits.Goals as goal
 
 pub returns : goal.returns

@@ -1,4 +1,4 @@
-use Rattle.host.specs.WriteRows.{signal_is}
+use Rattle.host.proofs.WriteRowsLaws.{signal_is}
 use Rattle.host.proofs.write.signal_digits.Goals as goal
 
 pub returns : goal.returns

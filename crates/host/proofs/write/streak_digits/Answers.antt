@@ -1,4 +1,4 @@
-use Rattle.host.specs.WriteRows.{streak_is}
+use Rattle.host.proofs.WriteRowsLaws.{streak_is}
 use Rattle.host.proofs.write.streak_digits.Goals as goal
 
 pub returns : goal.returns

@@ -1,4 +1,4 @@
-use Rattle.host.specs.WriteRows.{visits_is}
+use Rattle.host.proofs.WriteRowsLaws.{visits_is}
 use Rattle.host.proofs.write.visits_digits.Goals as goal
 
 pub returns : goal.returns

@@ -3,8 +3,8 @@ use mathlib.Core.Path.{◌≡◌, refl, sym, ◌∙◌}
 use lib.ListN.{length}
 use Rattle.laws.specs.Arrays.{length_field}
 use Rattle.host.specs.Layout.{notes, endings}
-use Rattle.host.specs.WriteLaws.{Whole}
-use Rattle.host.specs.WriteRows.{front_written, refusal_written, record_written, wrote_left}
+use Rattle.host.proofs.WriteLaws.{Whole}
+use Rattle.host.proofs.WriteRowsLaws.{front_written, refusal_written, record_written, wrote_left}
 use Rattle.host.proofs.AnswerBack.{decision_long}
 use Rattle.std.proofs.Common.{rules}
 use Rattle.host.proofs.write.write_decision.Goals as goal

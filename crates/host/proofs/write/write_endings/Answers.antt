@@ -1,8 +1,8 @@
 use Rattle.std.proofs.Common.{rules}
 use native.Mathlib.Omega.{arith}
 use Rattle.host.specs.Write.{ending_numbers}
-use Rattle.host.specs.WriteLaws.{length_ending}
-use Rattle.host.specs.WriteRows.{writing_start, writing_next, writing_end}
+use Rattle.host.proofs.WriteLaws.{length_ending}
+use Rattle.host.proofs.WriteRowsLaws.{writing_start, writing_next, writing_end}
 use Rattle.host.proofs.write.write_endings.Goals as goal
 
 pub loop-i-preserved : goal.loop-i-preserved

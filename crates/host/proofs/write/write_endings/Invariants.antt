@@ -2,7 +2,7 @@ use Prim.Native.Nat.{◌-◌}
 use Rattle.model.specs.Step.{no_ending}
 use Rattle.host.specs.Layout.{endings, ending_width}
 use Rattle.host.specs.Write.{ending_numbers}
-use Rattle.host.specs.WriteRows.{Writing}
+use Rattle.host.proofs.WriteRowsLaws.{Writing}
 use Rattle.host.proofs.write.write_endings.Given as goal
 
 -- the numbers of the rows before i are written

@@ -1,7 +1,7 @@
 use native.Mathlib.Omega.{arith}
 use mathlib.Core.Path.{refl}
 use Rattle.host.specs.Write.{head_numbers}
-use Rattle.host.specs.WriteLaws.{wrote_first, wrote_next, length_scalars, length_kept, length_output}
+use Rattle.host.proofs.WriteLaws.{wrote_first, wrote_next, length_scalars, length_kept, length_output}
 use Rattle.host.proofs.write.write_head.Goals as goal
 
 pub returns : goal.returns

@@ -2,7 +2,7 @@ use Prim.Native.Nat.{◌-◌}
 use Rattle.model.specs.Step.{no_note}
 use Rattle.host.specs.Layout.{notes, note_width}
 use Rattle.host.specs.Write.{note_numbers}
-use Rattle.host.specs.WriteRows.{Writing}
+use Rattle.host.proofs.WriteRowsLaws.{Writing}
 use Rattle.host.proofs.write.write_notes.Given as goal
 
 -- the numbers of the rows before i are written

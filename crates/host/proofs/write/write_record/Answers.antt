@@ -3,8 +3,8 @@ use mathlib.Core.Path.{refl}
 use Prim.Native.Nat.{◌-◌}
 use Rattle.host.specs.Layout.{record_length, record_signals, record_visits, record_streaks, record_results, signal_width, streak_width, result_width}
 use Rattle.host.specs.Write.{record_numbers}
-use Rattle.host.specs.WriteLaws.{Whole, length_head, length_signal, length_visits, length_streak, length_result}
-use Rattle.host.specs.WriteRows.{wrote_none, wrote_part, wrote_rows, wrote_all, signal_zeros, visits_zeros, streak_zeros, result_zeros}
+use Rattle.host.proofs.WriteLaws.{Whole, length_head, length_signal, length_visits, length_streak, length_result}
+use Rattle.host.proofs.WriteRowsLaws.{wrote_none, wrote_part, wrote_rows, wrote_all, signal_zeros, visits_zeros, streak_zeros, result_zeros}
 use Rattle.laws.specs.Arrays.{length_field}
 use Rattle.std.proofs.Common.{rules}
 use Rattle.host.proofs.write.write_record.Goals as goal

@@ -4,8 +4,8 @@ use mathlib.Core.Path.{◌∙◌, ap}
 use Prim.Native.Nat.{◌+◌, ◌*◌}
 use Rattle.laws.specs.Splice.{splice}
 use Rattle.host.specs.Layout.{result_width}
-use Rattle.host.specs.WriteLaws.{length_result, result_row}
-use Rattle.host.specs.WriteRows.{joined_start, joined_next, joined_end, writing_start, writing_next, writing_end}
+use Rattle.host.proofs.WriteLaws.{length_result, result_row}
+use Rattle.host.proofs.WriteRowsLaws.{joined_start, joined_next, joined_end, writing_start, writing_next, writing_end}
 use Rattle.host.proofs.write.write_results.Goals as goal
 
 pub loop-k-preserved : goal.loop-k-preserved

@@ -2,7 +2,7 @@ use Prim.Native.Nat.{◌-◌}
 use Rattle.model.specs.Record.{no_signal}
 use Rattle.host.specs.Layout.{store, signal_width}
 use Rattle.host.specs.Write.{signal_numbers}
-use Rattle.host.specs.WriteRows.{Joined, Writing}
+use Rattle.host.proofs.WriteRowsLaws.{Joined, Writing}
 use Rattle.host.proofs.write.write_signals.Given as goal
 
 -- where the digits of the rows from the count to k are 0, they are empty

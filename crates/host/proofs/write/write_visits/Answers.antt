@@ -1,8 +1,8 @@
 use Rattle.std.proofs.Common.{rules}
 use native.Mathlib.Omega.{arith}
 use Rattle.host.specs.Write.{visits_numbers}
-use Rattle.host.specs.WriteLaws.{length_visits}
-use Rattle.host.specs.WriteRows.{joined_start, joined_next, joined_end, writing_start, writing_next, writing_end}
+use Rattle.host.proofs.WriteLaws.{length_visits}
+use Rattle.host.proofs.WriteRowsLaws.{joined_start, joined_next, joined_end, writing_start, writing_next, writing_end}
 use Rattle.host.proofs.write.write_visits.Goals as goal
 
 pub loop-k-preserved : goal.loop-k-preserved

@@ -2,7 +2,7 @@ use Prim.Native.Nat.{◌-◌}
 use Rattle.model.specs.Record.{no_visits}
 use Rattle.host.specs.Layout.{nodes}
 use Rattle.host.specs.Write.{visits_numbers}
-use Rattle.host.specs.WriteRows.{Joined, Writing}
+use Rattle.host.proofs.WriteRowsLaws.{Joined, Writing}
 use Rattle.host.proofs.write.write_visits.Given as goal
 
 -- where the digits of the rows from the count to k are 0, they are empty

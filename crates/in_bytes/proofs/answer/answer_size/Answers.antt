@@ -1,7 +1,7 @@
 use native.Mathlib.Omega.{arith}
 use Rattle.std.proofs.Common.{rules}
 use Rattle.host.specs.Layout.{answer_record}
-use Rattle.in_bytes.specs.RunLaws.{run_few}
+use Rattle.in_bytes.proofs.RunLaws.{run_few}
 use Rattle.in_bytes.proofs.AnswerLaws.{both_sizes, head_few, answer_bytes}
 use Rattle.in_bytes.proofs.answer.answer_size.Goals as goal
 

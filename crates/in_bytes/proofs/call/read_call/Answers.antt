@@ -1,4 +1,4 @@
-use Rattle.codec.specs.StoredLaws.{bad_place}
+use Rattle.codec.proofs.StoredLaws.{bad_place}
 use Rattle.codec.specs.Exact.{Bytes}
 use native.Mathlib.Omega.{arith}
 use Rattle.in_bytes.proofs.CallSteps.{limits_bad, limited, limits_blank, sheet_bad, bad_call, call_read}

@@ -4,7 +4,7 @@ use mathlib.Core.Path.{◌≡◌, refl}
 use lib.ListN.{length}
 use Rattle.host.specs.Layout.{call_length}
 use Rattle.codec.specs.Exact.{Bytes}
-use Rattle.codec.specs.StoredLaws.{bad_place}
+use Rattle.codec.proofs.StoredLaws.{bad_place}
 use Rattle.in_bytes.proofs.RestSteps.{bad_rest, mark_bad, mark_over, mark_read, given_bad, given_read, event_bad, count_over, count_read, counted_long, answers_read}
 use Rattle.in_bytes.proofs.call.read_rest.Goals as goal
 

@@ -1,9 +1,9 @@
 use mathlib.Core.Path.{◌∙◌}
 use native.Mathlib.Omega.{arith}
 use Rattle.codec.specs.Exact.{Bytes}
-use Rattle.codec.specs.StoredLaws.{bad_place, bad_stored}
-use Rattle.in_bytes.specs.StagesLoops.{stages_long, stage_room, stage_refused, stage_more, last_stage}
-use Rattle.in_bytes.specs.RunLaws.{head_exact, visits_exact, streaks_exact, results_exact, run_start, numbers_bad, numbers_more, signals_over, signals_bad, signals_more}
+use Rattle.codec.proofs.StoredLaws.{bad_place, bad_stored}
+use Rattle.in_bytes.proofs.StagesLoops.{stages_long, stage_room, stage_refused, stage_more, last_stage}
+use Rattle.in_bytes.proofs.RunLaws.{head_exact, visits_exact, streaks_exact, results_exact, run_start, numbers_bad, numbers_more, signals_over, signals_bad, signals_more}
 use Rattle.in_bytes.proofs.run.read_run.Goals as goal
 
 pub returns-in_default : goal.returns-in_default

@@ -1,5 +1,5 @@
 use native.Mathlib.Omega.{arith}
-use Rattle.in_bytes.specs.RunLaws.{run_sizes, run_few}
+use Rattle.in_bytes.proofs.RunLaws.{run_sizes, run_few}
 use Rattle.in_bytes.proofs.run.run_size.Goals as goal
 
 pub overflow_add-result : goal.overflow_add-result

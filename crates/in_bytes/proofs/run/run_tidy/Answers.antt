@@ -1,5 +1,5 @@
 use native.Mathlib.Omega.{arith}
-use Rattle.in_bytes.specs.RunLaws.{run_crowded, run_neat}
+use Rattle.in_bytes.proofs.RunLaws.{run_crowded, run_neat}
 use Rattle.in_bytes.proofs.run.run_tidy.Goals as goal
 
 pub returns-then-stored-gt-CAPACITY : goal.returns-then-stored-gt-CAPACITY

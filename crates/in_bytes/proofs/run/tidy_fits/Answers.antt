@@ -1,4 +1,4 @@
-use Rattle.in_bytes.specs.RunUsed.{signals_past}
+use Rattle.in_bytes.proofs.RunUsed.{signals_past}
 use Rattle.in_bytes.proofs.run.tidy_fits.Goals as goal
 
 pub record_fits-requires : goal.record_fits-requires

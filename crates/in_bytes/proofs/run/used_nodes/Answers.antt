@@ -1,7 +1,7 @@
 use native.Mathlib.Omega.{arith}
 use mathlib.Core.Path.{sym, ◌∙◌}
 use borrow.Author.Tests.{not-false}
-use Rattle.in_bytes.specs.RunUsed.{nodes_start, nodes_more}
+use Rattle.in_bytes.proofs.RunUsed.{nodes_start, nodes_more}
 use Rattle.std.proofs.lemmas.Bool.{not_from_true}
 use Rattle.in_bytes.proofs.run.used_nodes.Goals as goal
 

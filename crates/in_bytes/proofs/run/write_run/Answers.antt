@@ -1,7 +1,7 @@
 use mathlib.Core.Path.{refl}
 use native.Mathlib.Omega.{arith}
-use Rattle.codec.specs.Loops.{writing_start, writing_room, writing_more, writing_place, writing_end}
-use Rattle.in_bytes.specs.RunLaws.{run_first, visits_first, streaks_first, results_first}
+use Rattle.codec.proofs.Loops.{writing_start, writing_room, writing_more, writing_place, writing_end}
+use Rattle.in_bytes.proofs.RunLaws.{run_first, visits_first, streaks_first, results_first}
 use Rattle.in_bytes.proofs.run.write_run.Goals as goal
 
 pub write_longs-first-requires : goal.write_longs-first-requires

@@ -1,6 +1,6 @@
 use native.Mathlib.Omega.{arith}
 use Rattle.codec.specs.Exact.{Bytes}
-use Rattle.codec.specs.StoredLaws.{bad_place, bad_stored}
+use Rattle.codec.proofs.StoredLaws.{bad_place, bad_stored}
 use Rattle.in_bytes.proofs.SheetLaws.{head_bad, head_read, columns_room, columns_read}
 use Rattle.std.proofs.Common.{rules}
 use Rattle.in_bytes.proofs.sheet.read_sheet.Goals as goal

@@ -2,7 +2,7 @@ use mathlib.Core.Path.{ap, ◌∙◌}
 use lib.ListN.{length}
 use Rattle.std.proofs.Common.{rules}
 use Rattle.laws.specs.Arrays.{length_field}
-use Rattle.host.specs.WriteLaws.{Whole}
+use Rattle.host.proofs.WriteLaws.{Whole}
 use Rattle.in_bytes.specs.Boundary.{Outcome, returned, left}
 use Rattle.in_bytes.proofs.StructsLaws.{state_written}
 use Rattle.in_bytes.proofs.structs.write_state.Goals as goal

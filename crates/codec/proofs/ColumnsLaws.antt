@@ -12,10 +12,11 @@ use Rattle.laws.specs.All.{All}
 use Rattle.codec.specs.Read.{Read, got, bad, onward}
 use Rattle.codec.specs.Numbers.{bytes_of, numbers_at, all_below}
 use Rattle.codec.specs.Stages.{Shape, numbers, column, beside, total, columns, Stage, widths, staged, all_zero}
-use Rattle.codec.specs.Exact.{Bytes, IsRead, Exact, not_bad, beside_exact}
-use Rattle.codec.specs.LebLaws.{leb_few}
-use Rattle.codec.specs.NumbersLaws.{numbers_exact}
-use Rattle.codec.specs.Zeros.{all_zeros, zeros, padded_long, take_padded, drop_padded}
+use Rattle.codec.specs.Exact.{Bytes, IsRead, Exact}
+use Rattle.codec.proofs.ExactLaws.{not_bad, beside_exact}
+use Rattle.codec.proofs.LebLaws.{leb_few}
+use Rattle.codec.proofs.NumbersLaws.{numbers_exact}
+use Rattle.codec.proofs.Zeros.{all_zeros, zeros, padded_long, take_padded, drop_padded}
 
 -- ONE COLUMN.
 module _ (top room used : ℕ) where

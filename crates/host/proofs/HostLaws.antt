@@ -23,28 +23,9 @@ use Rattle.host.specs.Layout.{call_length, record_length, answer_length, verdict
 use Rattle.host.specs.Read.{has_record, record_of, call_of, record_fits, call_fits}
 use Rattle.host.specs.Write.{decision_numbers}
 use Rattle.host.specs.declared.read.Used.{Used}
-use Rattle.host.specs.ByCount.{UsedRows, record_rows, rows_record}
-use Rattle.host.specs.Host.{receipt, decided, answered, verdict_receipt, verdict_numbers, judged}
-
--- THE TWO PARTS OF A RECEIPT: by the lengths, and by the numbers.
-unfoldable pub by_lengths : (sheet_size call_size given_size room : ℕ) → ℕ
-by_lengths sheet_size call_size given_size room =
-    when not (eqb sheet_size sheet_length) then layout.bad_sheet_length else
-    when not (eqb call_size call_length) then layout.bad_call_length else
-    when not (eqb given_size record_length) then layout.bad_record_length else
-    when ltb room answer_length then layout.short_buffer else layout.written
-
-unfoldable pub by_numbers : (call given : List ℕ) → ℕ
-by_numbers call given =
-    when not (call_fits call) then layout.bad_call else
-    when has_record call and not (record_fits given) then layout.bad_record else layout.written
-
--- What is lent has the layout's lengths.
-pub record Lent (sheet_size call_size given_size room : ℕ) : Type 0 where
-  pub sheet : sheet_size ≡ sheet_length
-  pub call : call_size ≡ call_length
-  pub given : given_size ≡ record_length
-  pub roomy : answer_length ≤ room
+use Rattle.host.specs.ByCount.{UsedRows, record_rows}
+use Rattle.host.proofs.ByCountLaws.{rows_record}
+use Rattle.host.specs.Host.{by_lengths, by_numbers, Lent, receipt, decided, answered, verdict_receipt, verdict_numbers, judged}
 
 module _ (n c r b : ℕ) where
   pub lent : by_lengths n c r b ≡ layout.written → Lent n c r b

@@ -17,17 +17,18 @@ use Rattle.codec.specs.Numbers.{bytes_of, numbers_at, part}
 use Rattle.codec.specs.Stages.{Stage, widths, numbers, column, all_zero}
 use Rattle.codec.specs.Slots.{slots}
 use Rattle.codec.specs.Stored.{place_of, Stored}
-use Rattle.codec.specs.Exact.{Bytes, Exact, bytes_append}
-use Rattle.codec.specs.Loops.{BytesFirst}
-use Rattle.codec.specs.NumbersLaws.{numbers_exact}
-use Rattle.codec.specs.Parts.{part_long, part_front, part_back, part_below}
-use Rattle.codec.specs.PartLaws.{get_d_part, length_part}
-use Rattle.codec.specs.SlotsLaws.{slots_width, slots_exact}
-use Rattle.codec.specs.ColumnsLaws.{column_exact, StageExact, staged_width, staged_exact, exact_few}
-use Rattle.codec.specs.ColumnsLoops.{column_over, column_place, column_stored, used_part, column_neat, column_crowded}
+use Rattle.codec.specs.Exact.{Bytes, Exact}
+use Rattle.codec.proofs.ExactLaws.{bytes_append}
+use Rattle.codec.proofs.Loops.{BytesFirst}
+use Rattle.codec.proofs.NumbersLaws.{numbers_exact}
+use Rattle.codec.proofs.Parts.{part_long, part_front, part_back, part_below}
+use Rattle.codec.proofs.PartLaws.{get_d_part, length_part}
+use Rattle.codec.proofs.SlotsLaws.{slots_width, slots_exact}
+use Rattle.codec.proofs.ColumnsLaws.{column_exact, StageExact, staged_width, staged_exact, exact_few}
+use Rattle.codec.proofs.ColumnsLoops.{column_over, column_place, column_stored, used_part, column_neat, column_crowded}
 use Rattle.host.specs.Layout as layout
 use Rattle.in_bytes.specs.Run.{single_numbers, stored_signals, all_visits, all_streaks, all_results, run}
-use Rattle.in_bytes.specs.StagesLoops.{ReadingStages, stages_start, stages_seen, stage_room, stage_bad, stage_refused, stage_more, stages_neat, stages_written, no_stage_neat, no_stage_written}
+use Rattle.in_bytes.proofs.StagesLoops.{ReadingStages, stages_start, stages_seen, stage_room, stage_bad, stage_refused, stage_more, stages_neat, stages_written, no_stage_neat, no_stage_written}
 
 -- THE STAGES, each exact.
 pub numbers_stage : (k : ℕ) → StageExact (record { room = k; shape = λ _. numbers (2 ^ 64) k })

@@ -12,8 +12,9 @@ use Rattle.codec.specs.Read.{Read, got, bad, onward, tested}
 use Rattle.codec.specs.Leb.{leb128, parse, number_at}
 use Rattle.codec.specs.Numbers.{bytes_of, number_below, numbers_at, all_below}
 use Rattle.codec.specs.Stages.{numbers}
-use Rattle.codec.specs.Exact.{Bytes, IsRead, Exact, not_bad}
-use Rattle.codec.specs.LebLaws.{NumberRead, number_back, number_only}
+use Rattle.codec.specs.Exact.{Bytes, IsRead, Exact}
+use Rattle.codec.proofs.ExactLaws.{not_bad}
+use Rattle.codec.proofs.LebLaws.{NumberRead, number_back, number_only}
 
 -- ONE NUMBER BELOW TOP.
 module _ (top : ℕ) where

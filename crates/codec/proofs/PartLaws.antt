@@ -5,7 +5,7 @@ use native.Mathlib.Omega.{arith}
 use Rattle.std.proofs.Math.ListN.{length-take, length-drop}
 use Rattle.std.proofs.Math.Seq.{get_or-take, get_or-drop}
 use Rattle.codec.specs.Numbers.{bytes_of, part}
-use Rattle.codec.specs.ColumnsLaws.{bytes_few}
+use Rattle.codec.proofs.ColumnsLaws.{bytes_few}
 
 pub part_few : (xs : List ℕ) (first k : ℕ) → length (bytes_of (part xs first (first + k))) ≤ 10 * k
 unfolding part

@@ -14,9 +14,9 @@ use Rattle.codec.specs.Numbers.{bytes_of, part}
 use Rattle.codec.specs.Stages.{Stage, widths, staged}
 use Rattle.codec.specs.Stored.{place_of, Stored, ZeroFrom}
 use Rattle.codec.specs.Exact.{Bytes}
-use Rattle.codec.specs.StoredLaws.{at_got, at_bad, bad_place, bad_stored}
-use Rattle.codec.specs.ColumnsLaws.{StageExact, staged_width}
-use Rattle.codec.specs.ShapesLoops.{ReadingShapes, reading_start, reading_long, reading_room, reading_bad, reading_more, reading_place, reading_stored, neat, written, neat_next, neat_none, written_next, written_none}
+use Rattle.codec.proofs.StoredLaws.{at_got, at_bad, bad_place, bad_stored}
+use Rattle.codec.proofs.ColumnsLaws.{StageExact, staged_width}
+use Rattle.codec.proofs.ShapesLoops.{ReadingShapes, reading_start, reading_long, reading_room, reading_bad, reading_more, reading_place, reading_stored, neat, written, neat_next, neat_none, written_next, written_none}
 
 -- READING into a list that is zero: the stages that are left, by the numbers of those before them.
 pub record ReadingStages (stages : List Stage) (bytes : List ℕ) (whole : Read (List ℕ)) (before : List ℕ) (at i : ℕ) (list : List ℕ) : Type 0 where

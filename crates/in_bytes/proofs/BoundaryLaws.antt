@@ -21,7 +21,7 @@ use Rattle.in_bytes.specs.Sheet.{sheet}
 use Rattle.in_bytes.specs.Run.{run}
 use Rattle.in_bytes.specs.Event.{event, event_fits}
 use Rattle.in_bytes.specs.Answer.{answer}
-use Rattle.in_bytes.specs.Boundary.{bad_bytes, short, bad_form, bad_run, no_item, Outcome, done, refused, packed, returned, left, into, write_sheet, write_run, write_event, ended, whole, taken, read_sheet, read_run, read_event, said, told}
+use Rattle.in_bytes.specs.Boundary.{bad_bytes, short, bad_form, bad_run, no_item, Outcome, done, refused, packed, returned, left, into, write_sheet, write_run, write_event, ended, whole, taken, read_sheet, read_run, read_event, said, told, ends_at}
 
 -- What a function returns and leaves, once its outcome is known.
 module _ {o : Outcome} (array : List ℕ) where
@@ -96,11 +96,7 @@ module _ (ns : List ℕ) (room : ℕ) where
   unfolding write_event event numbers when◌then◌else◌
   event_into h f = rw (eq-eqb (length ns) layout.event_length h, f)
 
--- A READ. What was read ends where the bytes end.
-unfoldable pub ends_at : (size : ℕ) → Place → Bool
-ends_at size (Place.At next) = eqb next size
-ends_at size Place.Bad = false
-
+-- A READ.
 pub record Whole (size : ℕ) (read : Read (List ℕ)) : Type 0 where
   pub ns : List ℕ
   pub is : read ≡ got ns size

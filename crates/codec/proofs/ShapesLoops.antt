@@ -13,11 +13,11 @@ use Rattle.codec.specs.Read.{Read, got, bad, onward}
 use Rattle.codec.specs.Numbers.{bytes_of, numbers_at, part}
 use Rattle.codec.specs.Stages.{Shape, numbers, beside}
 use Rattle.codec.specs.Stored.{place_of, Stored, ZeroFrom}
-use Rattle.codec.specs.StoredLaws.{got_place, got_stored}
-use Rattle.codec.specs.Exact.{bytes_append}
-use Rattle.codec.specs.NumbersLoops.{part_none}
-use Rattle.codec.specs.Zeros.{zero_behind}
-use Rattle.codec.specs.Parts.{part_front, part_back}
+use Rattle.codec.proofs.StoredLaws.{got_place, got_stored}
+use Rattle.codec.proofs.ExactLaws.{bytes_append}
+use Rattle.codec.proofs.NumbersLoops.{part_none}
+use Rattle.codec.proofs.Zeros.{zero_behind}
+use Rattle.codec.proofs.Parts.{part_front, part_back}
 
 -- THE LOOP THAT READS. What was read stands in the list, which was before, from first on; the shape that is left comes behind it, and behind that the list is zero.
 pub record ReadingShapes (bytes : List ℕ) (whole : Read (List ℕ)) (before : List ℕ) (first : ℕ) (rest : Shape) (at i : ℕ) (list : List ℕ) : Type 0 where

@@ -16,14 +16,14 @@ use Rattle.codec.specs.Read.{Read, got, bad, onward}
 use Rattle.codec.specs.Numbers.{bytes_of, numbers_at, part}
 use Rattle.codec.specs.Stages.{Shape, numbers, column, beside, total, columns, all_zero}
 use Rattle.codec.specs.Stored.{place_of, Stored, ZeroFrom}
-use Rattle.codec.specs.Exact.{not_bad}
-use Rattle.codec.specs.NumbersLaws.{numbers_long}
-use Rattle.codec.specs.Zeros.{padded_long, splice_padded}
-use Rattle.codec.specs.Parts.{part_long, part_front, part_back, part_below, every_take}
-use Rattle.codec.specs.StoredLaws.{at_got, at_bad}
-use Rattle.codec.specs.ShapesLoops.{ReadingShapes, reading_start, reading_long, reading_room, reading_bad, reading_more, reading_place, reading_stored, neat, written, neat_next, neat_none, Ahead, Step, step, WritingShapes, writing_start, writing_long, writing_room, writing_more, writing_place, writing_end, CountingShapes, counting_more, counting_end}
-use Rattle.codec.specs.ColumnsLaws.{tidy_column, column_read, columns_width}
-use Rattle.codec.specs.PartLaws.{part_few}
+use Rattle.codec.proofs.ExactLaws.{not_bad}
+use Rattle.codec.proofs.NumbersLaws.{numbers_long}
+use Rattle.codec.proofs.Zeros.{padded_long, splice_padded}
+use Rattle.codec.proofs.Parts.{part_long, part_front, part_back, part_below, every_take}
+use Rattle.codec.proofs.StoredLaws.{at_got, at_bad}
+use Rattle.codec.proofs.ShapesLoops.{ReadingShapes, reading_start, reading_long, reading_room, reading_bad, reading_more, reading_place, reading_stored, neat, written, neat_next, neat_none, Ahead, Step, step, WritingShapes, writing_start, writing_long, writing_room, writing_more, writing_place, writing_end, CountingShapes, counting_more, counting_end}
+use Rattle.codec.proofs.ColumnsLaws.{tidy_column, column_read, columns_width}
+use Rattle.codec.proofs.PartLaws.{part_few}
 
 -- THE SHAPE THAT IS LEFT at column c.
 abbrev left_at : (top : ℕ) (rooms used : List ℕ) (c : ℕ) → Shape

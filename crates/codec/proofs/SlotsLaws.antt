@@ -18,13 +18,14 @@ use Rattle.codec.specs.Leb.{leb128}
 use Rattle.codec.specs.Numbers.{bytes_of, number_below, numbers_at, all_below}
 use Rattle.codec.specs.Stages.{numbers, beside, all_zero}
 use Rattle.codec.specs.Slots.{slot, slots}
-use Rattle.codec.specs.Exact.{Bytes, IsRead, Exact, bytes_append, beside_exact}
-use Rattle.codec.specs.ReadLaws.{both_read}
-use Rattle.codec.specs.LebLaws.{NumberRead}
-use Rattle.codec.specs.NumbersLaws.{below_back, below_only, numbers_exact, numbers_long}
-use Rattle.codec.specs.ColumnsLaws.{bytes_few}
-use Rattle.codec.specs.Zeros.{zeros}
-use Rattle.codec.specs.Parts.{every_take, every_drop}
+use Rattle.codec.specs.Exact.{Bytes, IsRead, Exact}
+use Rattle.codec.proofs.ExactLaws.{bytes_append, beside_exact}
+use Rattle.codec.proofs.ReadLaws.{both_read}
+use Rattle.codec.proofs.LebLaws.{NumberRead}
+use Rattle.codec.proofs.NumbersLaws.{below_back, below_only, numbers_exact, numbers_long}
+use Rattle.codec.proofs.ColumnsLaws.{bytes_few}
+use Rattle.codec.proofs.Zeros.{zeros}
+use Rattle.codec.proofs.Parts.{every_take, every_drop}
 
 -- Zeros pass where 0 does.
 every_zero : (p : ℕ → Bool) (k : ℕ) → p 0 ≡ true → every p (replicate k 0) ≡ true

@@ -12,10 +12,10 @@ use Rattle.codec.specs.Numbers.{bytes_of, part}
 use Rattle.codec.specs.Stages.{Shape, numbers, beside}
 use Rattle.codec.specs.Slots.{slot, slots}
 use Rattle.codec.specs.Stored.{place_of, Stored, ZeroFrom}
-use Rattle.codec.specs.StoredLaws.{Got}
-use Rattle.codec.specs.SlotsLaws.{slot_long, slots_width}
-use Rattle.codec.specs.SlotSteps.{here_few}
-use Rattle.codec.specs.ShapesLoops.{ReadingShapes, reading_start, reading_long, reading_room, reading_bad, reading_more, reading_place, reading_stored, neat, neat_next, neat_none, WritingShapes, writing_start, writing_long, writing_room, writing_more, writing_place, writing_end, CountingShapes, counting_more, counting_end}
+use Rattle.codec.proofs.StoredLaws.{Got}
+use Rattle.codec.proofs.SlotsLaws.{slot_long, slots_width}
+use Rattle.codec.proofs.SlotSteps.{here_few}
+use Rattle.codec.proofs.ShapesLoops.{ReadingShapes, reading_start, reading_long, reading_room, reading_bad, reading_more, reading_place, reading_stored, neat, neat_next, neat_none, WritingShapes, writing_start, writing_long, writing_room, writing_more, writing_place, writing_end, CountingShapes, counting_more, counting_end}
 
 -- THE SLOTS FROM THE NTH ON: the nth, and those behind it; or none.
 abbrev left : (top before after k n : ℕ) → Shape

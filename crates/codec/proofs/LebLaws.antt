@@ -12,7 +12,8 @@ use borrow.Author.Tests.{ltb-true, ltb-false, lt-ltb, le-ltb, eqb-false, ne_eqb}
 use Rattle.laws.specs.Bool.{when◌then◌else◌, split}
 use Rattle.codec.specs.Read.{Read, got, bad, onward}
 use Rattle.codec.specs.Leb.{groups, leb128, parse, number_at}
-use Rattle.codec.specs.Exact.{Bytes, not_bad}
+use Rattle.codec.specs.Exact.{Bytes}
+use Rattle.codec.proofs.ExactLaws.{not_bad}
 
 -- HOW MANY GROUPS.
 groups_few : (k n : ℕ) → length (groups k n) ≤ k

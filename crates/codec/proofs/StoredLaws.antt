@@ -6,7 +6,7 @@ use Rattle.codec.specs.declared.number.Number.{Number}
 use Rattle.codec.specs.declared.numbers.Place.{Place}
 use Rattle.codec.specs.Read.{Read, got, bad}
 use Rattle.codec.specs.Stored.{number_of, place_of, Stored}
-use Rattle.codec.specs.Exact.{not_bad}
+use Rattle.codec.proofs.ExactLaws.{not_bad}
 
 -- A value was read, and the next place is behind it.
 pub record Got {A : Type 0} (read : Read A) (next : ℕ) : Type 0 where

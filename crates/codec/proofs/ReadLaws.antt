@@ -1,7 +1,7 @@
 -- What was read by one read behind another.
 use Rattle.std.specs.Prelude.{◌≡◌, refl, ℕ}
 use Rattle.codec.specs.Read.{Read, got, bad, onward}
-use Rattle.codec.specs.Exact.{not_bad}
+use Rattle.codec.proofs.ExactLaws.{not_bad}
 
 -- The first read gave a value, and with it the second gave what was read.
 pub record BothRead {A B : Type 0} (first : Read A) (more : A → ℕ → Read B) (x : B) (next : ℕ) : Type 0 where

@@ -11,7 +11,7 @@ use Rattle.laws.specs.Splice.{splice, splice_none, splice_one, splice_more, leng
 use Rattle.codec.specs.Read.{Read, got, bad, onward}
 use Rattle.codec.specs.Leb.{leb128}
 use Rattle.codec.specs.Numbers.{bytes_of, number_below, numbers_at, part}
-use Rattle.codec.specs.LebLaws.{leb_few}
+use Rattle.codec.proofs.LebLaws.{leb_few}
 
 -- A PART of a list, from a place up to another.
 pub part_more : (xs : List ℕ) (i k : ℕ) → i < k → k ≤ length xs → part xs i k ≡ get_or xs i 0 ∷ part xs (i + 1) k

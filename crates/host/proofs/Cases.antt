@@ -13,7 +13,7 @@ use Rattle.model.specs.declared.Kept.{Kept}
 use Rattle.model.specs.Answers.{output_numbers, kept_numbers}
 use Rattle.host.specs.Read.{at, narrow, error_of, output_of, kept_of, Field, field_fits, all_fit, output_fits, kept_fits}
 use Rattle.host.specs.Fits.{Number, Name, Code, ErrorFits, OutputFits, KeptFits}
-use Rattle.host.specs.Lists.{all_at, every_all, all_every}
+use Rattle.host.proofs.Lists.{all_at, every_all, all_every}
 
 -- BOTH OF TWO, as the code's `&` joins them.
 pub both_of : (a b : Bool) → (a && b) ≡ true → (a ≡ true) × (b ≡ true)

@@ -16,7 +16,7 @@ use Rattle.laws.specs.Splice.{splice, splice_one, splice_more}
 use Rattle.codec.specs.Read.{Read, got, bad, onward}
 use Rattle.codec.specs.Leb.{groups, leb128, parse, number_at}
 use Rattle.codec.specs.Groups.{above, followed}
-use Rattle.codec.specs.LebLaws.{groups_some}
+use Rattle.codec.proofs.LebLaws.{groups_some}
 
 -- READING. A group b in front of others.
 above_more : (low scale at b : ℕ) (r : Read ℕ) → 128 ≤ b → above low scale at (onward r (λ n size. when eqb n 0 then bad else got (b - 128 + 128 * n) (suc size))) ≡ above (low + scale * (b - 128)) (scale * 128) (at + 1) r

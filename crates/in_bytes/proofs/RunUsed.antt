@@ -1,5 +1,5 @@
 -- What is used of a tidy run: past its stored signals, and past the last node that is used, all is zero.
-use Rattle.std.specs.Prelude.{◌≡◌, Bool, true, ◌&&◌, List, ltb, length}
+use Rattle.std.specs.Prelude.{◌≡◌, true, ◌&&◌, List, ltb, length}
 use Rattle.std.proofs.Math.Path.{refl}
 use Rattle.std.proofs.Common.{sym, ap, ◌∙◌}
 use Prim.Native.Nat.{ℕ, suc, ◌+◌, ◌*◌, ◌-◌, ◌^◌, ◌≤◌, ◌<◌}
@@ -10,20 +10,16 @@ use borrow.Author.Tests.{eqb-true, ltb-true, ltb-false}
 use Rattle.laws.specs.Bool.{split, both}
 use Rattle.codec.specs.Numbers.{part}
 use Rattle.codec.specs.Slots.{slots}
-use Rattle.codec.specs.PartLaws.{get_d_part}
-use Rattle.codec.specs.TidyLaws.{column_low, column_zero, slots_zero}
+use Rattle.codec.proofs.PartLaws.{get_d_part}
+use Rattle.codec.proofs.TidyLaws.{column_low, column_zero, slots_zero}
 use Rattle.host.specs.Layout as layout
 use Rattle.host.specs.Layout.{visits_place, streak_place, result_place}
 use Rattle.host.specs.Read.{at}
 use Rattle.host.specs.ByCount.{SignalsPast, NodesPast}
-use Rattle.host.specs.Cases.{both_of}
-use Rattle.in_bytes.specs.Run.{stored_signals, run}
-use Rattle.in_bytes.specs.RunLaws.{parts_neat}
-use Rattle.in_bytes.specs.BoundaryLaws.{part_all}
-
--- A node has no visits, and the leads of its streak and its result are 0.
-unfoldable pub unused : List ℕ → ℕ → Bool
-unused numbers node = eqb (at numbers (visits_place node)) 0 && eqb (at numbers (streak_place node + 1)) 0 && eqb (at numbers (result_place node + 2)) 0
+use Rattle.host.proofs.Cases.{both_of}
+use Rattle.in_bytes.specs.Run.{unused, stored_signals, run}
+use Rattle.in_bytes.proofs.RunLaws.{parts_neat}
+use Rattle.in_bytes.proofs.BoundaryLaws.{part_all}
 
 module _ (xs : List ℕ) (long : length xs ≡ layout.record_length) (tidy : run.tidy xs ≡ true) where
   -- THE SIGNALS, by their count.

@@ -13,12 +13,12 @@ use Rattle.codec.specs.Numbers.{bytes_of, number_below, numbers_at, part}
 use Rattle.codec.specs.Stages.{all_zero}
 use Rattle.codec.specs.Slots.{slot}
 use Rattle.codec.specs.Stored.{place_of, Stored, ZeroFrom}
-use Rattle.codec.specs.Exact.{bytes_append}
-use Rattle.codec.specs.ReadLaws.{both_read}
-use Rattle.codec.specs.NumbersLaws.{numbers_long}
-use Rattle.codec.specs.Zeros.{splice_padded}
-use Rattle.codec.specs.SlotsLaws.{slot_few}
-use Rattle.codec.specs.Parts.{part_long, part_front, part_back, part_below}
+use Rattle.codec.proofs.ExactLaws.{bytes_append}
+use Rattle.codec.proofs.ReadLaws.{both_read}
+use Rattle.codec.proofs.NumbersLaws.{numbers_long}
+use Rattle.codec.proofs.Zeros.{splice_padded}
+use Rattle.codec.proofs.SlotsLaws.{slot_few}
+use Rattle.codec.proofs.Parts.{part_long, part_front, part_back, part_below}
 
 -- Zeros that are written where the list is zero change nothing.
 zeros_there : (list : List ℕ) (first k : ℕ) → ZeroFrom first list → first + k ≤ length list → list ≡ splice list first (replicate k 0)
