@@ -25,7 +25,8 @@ use Rattle.host.specs.Write.{decision_numbers}
 use Rattle.host.specs.declared.read.Used.{Used}
 use Rattle.host.specs.ByCount.{UsedRows, record_rows}
 use Rattle.host.proofs.ByCountLaws.{rows_record}
-use Rattle.host.specs.Host.{by_lengths, by_numbers, Lent, receipt, decided, answered, verdict_receipt, verdict_numbers, judged}
+use Rattle.host.specs.Host.{Lent, receipt, decided, answered, verdict_receipt, verdict_numbers, judged}
+use Rattle.host.specs.Receipt.{by_lengths, by_numbers}
 
 module _ (n c r b : ℕ) where
   pub lent : by_lengths n c r b ≡ layout.written → Lent n c r b

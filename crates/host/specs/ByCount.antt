@@ -1,4 +1,4 @@
--- A record read by count: where the rows past a count are zeros.
+-- A record read by count: the rows past a count are zeros, and are read as empty ones.
 use Rattle.std.specs.Prelude.{◌≡◌, Bool, true, List, ℕ, ◌≤◌, ◌<◌, eqb}
 use Rattle.laws.specs.Rows.{span}
 use Rattle.laws.specs.Every.{every}

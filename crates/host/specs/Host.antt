@@ -26,19 +26,6 @@ receipt sheet_size call given room =
     when not (call_fits call) then bad_call else
     when has_record call and not (record_fits given) then bad_record else written
 
--- THE TWO PARTS OF A RECEIPT: by the lengths, and by the numbers.
-unfoldable pub by_lengths : (sheet_size call_size given_size room : ℕ) → ℕ
-by_lengths sheet_size call_size given_size room =
-    when not (eqb sheet_size sheet_length) then bad_sheet_length else
-    when not (eqb call_size call_length) then bad_call_length else
-    when not (eqb given_size record_length) then bad_record_length else
-    when ltb room answer_length then short_buffer else written
-
-unfoldable pub by_numbers : (call given : List ℕ) → ℕ
-by_numbers call given =
-    when not (call_fits call) then bad_call else
-    when has_record call and not (record_fits given) then bad_record else written
-
 -- What is lent has the layout's lengths.
 pub record Lent (sheet_size call_size given_size room : ℕ) : Type 0 where
   pub sheet : sheet_size ≡ sheet_length

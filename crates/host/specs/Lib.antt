@@ -7,3 +7,4 @@ pub mod Fits
 pub mod ReadAnswer
 pub mod ByCount
 pub mod WriteRows
+pub mod Receipt

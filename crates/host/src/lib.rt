@@ -11,7 +11,7 @@ ghost use Rattle.host.specs.Read.{has_record};
 ghost use Rattle.host.specs.ByCount.{UsedRows};
 ghost use Rattle.host.specs.Write.{decision_numbers};
 ghost use Rattle.host.specs.Host.{receipt, decided, answered, Full, verdict_receipt, verdict_numbers, judged};
-ghost use Rattle.host.specs.Host.{by_lengths, by_numbers};
+ghost use Rattle.host.specs.Receipt.{by_lengths, by_numbers};
 
 use crate::read::{Used, call_fits, read_call, read_record, record_fits, used_rows};
 use crate::write::write_decision;

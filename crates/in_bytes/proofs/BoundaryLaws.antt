@@ -21,7 +21,8 @@ use Rattle.in_bytes.specs.Sheet.{sheet}
 use Rattle.in_bytes.specs.Run.{run}
 use Rattle.in_bytes.specs.Event.{event, event_fits}
 use Rattle.in_bytes.specs.Answer.{answer}
-use Rattle.in_bytes.specs.Boundary.{bad_bytes, short, bad_form, bad_run, no_item, Outcome, done, refused, packed, returned, left, into, write_sheet, write_run, write_event, ended, whole, taken, read_sheet, read_run, read_event, said, told, ends_at}
+use Rattle.in_bytes.specs.Boundary.{bad_bytes, short, bad_form, bad_run, no_item, Outcome, done, refused, packed, returned, left, into, write_sheet, write_run, write_event, ended, whole, taken, read_sheet, read_run, read_event, said, told}
+use Rattle.in_bytes.specs.Tests.{ends_at}
 
 -- What a function returns and leaves, once its outcome is known.
 module _ {o : Outcome} (array : List ℕ) where

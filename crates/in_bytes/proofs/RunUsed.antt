@@ -17,7 +17,8 @@ use Rattle.host.specs.Layout.{visits_place, streak_place, result_place}
 use Rattle.host.specs.Read.{at}
 use Rattle.host.specs.ByCount.{SignalsPast, NodesPast}
 use Rattle.host.proofs.Cases.{both_of}
-use Rattle.in_bytes.specs.Run.{unused, stored_signals, run}
+use Rattle.in_bytes.specs.Run.{stored_signals, run}
+use Rattle.in_bytes.specs.Tests.{unused}
 use Rattle.in_bytes.proofs.RunLaws.{parts_neat}
 use Rattle.in_bytes.proofs.BoundaryLaws.{part_all}
 

@@ -7,7 +7,6 @@ use Rattle.host.specs.Layout as layout
 use Rattle.host.specs.Read.{at, narrow, record_fits}
 use Rattle.host.specs.Write.{decision_numbers}
 use Rattle.host.specs.Host.{receipt, decided}
-use Rattle.codec.specs.declared.numbers.Place.{Place}
 use Rattle.codec.specs.Read.{Read, got, bad}
 use Rattle.codec.specs.Numbers.{bytes_of, all_below}
 use Rattle.codec.specs.Stages.{Shape}
@@ -74,11 +73,6 @@ write_event ns room =
 unfoldable pub ended : (size : ℕ) → Read (List ℕ) → Read (List ℕ)
 ended size (got ns next) = when eqb next size then got ns next else bad
 ended size bad = bad
-
--- What was read ends where the bytes end.
-unfoldable pub ends_at : (size : ℕ) → Place → Bool
-ends_at size (Place.At next) = eqb next size
-ends_at size Place.Bad = false
 
 abbrev pub whole : Shape → List ℕ → Read (List ℕ)
 whole shape bytes = ended (length bytes) (shape.read bytes 0)

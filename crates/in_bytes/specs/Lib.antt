@@ -7,3 +7,4 @@ pub mod Answer
 pub mod Boundary
 pub mod Structs
 pub mod CallStored
+pub mod Tests

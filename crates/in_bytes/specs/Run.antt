@@ -1,8 +1,6 @@
 -- A run as bytes (docs/BYTES.md): its single numbers; the stored signals, whose slots are in order of arrival; visits, streaks and results of all nodes.
-use Rattle.std.specs.Prelude.{Bool, ◌&&◌, List, ℕ, ◌+◌, eqb, [], ◌∷◌, ◌*◌, ◌^◌, get_or}
+use Rattle.std.specs.Prelude.{[], ◌∷◌, ◌*◌, ◌^◌, get_or}
 use Rattle.host.specs.Layout as layout
-use Rattle.host.specs.Layout.{visits_place, streak_place, result_place}
-use Rattle.host.specs.Read.{at}
 use Rattle.codec.specs.Stages.{Shape, numbers, column, Stage, staged}
 use Rattle.codec.specs.Slots.{slots}
 
@@ -26,7 +24,3 @@ all_results = record { room = layout.result_width * layout.nodes; shape = λ _. 
 
 unfoldable pub run : Shape
 run = staged (single_numbers ∷ stored_signals ∷ all_visits ∷ all_streaks ∷ all_results ∷ []) []
-
--- A node has no visits, and the leads of its streak and its result are 0.
-unfoldable pub unused : List ℕ → ℕ → Bool
-unused numbers node = eqb (at numbers (visits_place node)) 0 && eqb (at numbers (streak_place node + 1)) 0 && eqb (at numbers (result_place node + 2)) 0

@@ -12,7 +12,7 @@ ghost use Rattle.std.specs.Prelude.{◌≡◌, ◌≤◌, length};
 ghost use Rattle.laws.specs.Splice.{splice};
 ghost use Rattle.workflow.specs.Layout.{numbers as sheet_length};
 ghost use Rattle.in_bytes.specs.Boundary.{no_item, packed, returned, left, write_sheet, write_run, write_event, read_sheet, read_run, read_event, said, told, decide, decide_on, is_said, said_in, Of64Bits, call_bytes, call_bytes_on};
-ghost use Rattle.in_bytes.specs.Boundary.{ends_at};
+ghost use Rattle.in_bytes.specs.Tests.{ends_at};
 
 use crate::answer::{answer_size, write_answer};
 use crate::call::{read_call, read_rest};

@@ -7,7 +7,7 @@ ghost use Rattle.host.specs.ByCount.{NodesPast};
 ghost use Rattle.codec.specs.Numbers.{bytes_of, part};
 ghost use Rattle.codec.specs.Stored.{place_of, Stored};
 ghost use Rattle.in_bytes.specs.Run.{run};
-ghost use Rattle.in_bytes.specs.Run.{unused};
+ghost use Rattle.in_bytes.specs.Tests.{unused};
 
 use codec::numbers::{Place, longs_size, longs_zero, read_longs, write_longs};
 use codec::slots::{read_slots, slots_size, slots_tidy, write_slots};

@@ -1,5 +1,5 @@
 use Rattle.laws.specs.Bool.{when◌then◌else◌}
-use Rattle.host.specs.Host.{by_lengths}
+use Rattle.host.specs.Receipt.{by_lengths}
 use borrow.Author.Tests.{eq-eqb, le-ltb, lt-ltb, ne_eqb}
 use Rattle.host.proofs.by_lengths.Goals as goal
 

@@ -1,5 +1,5 @@
 use Rattle.laws.specs.Bool.{when◌then◌else◌, ◌and◌}
-use Rattle.host.specs.Host.{by_numbers}
+use Rattle.host.specs.Receipt.{by_numbers}
 use borrow.Author.Tests.{eq-eqb, ne_eqb}
 use Rattle.host.proofs.by_numbers.Goals as goal
 

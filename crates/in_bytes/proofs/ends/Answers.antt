@@ -1,4 +1,4 @@
-use Rattle.in_bytes.specs.Boundary.{ends_at}
+use Rattle.in_bytes.specs.Tests.{ends_at}
 use Rattle.in_bytes.proofs.ends.Goals as goal
 
 pub returns-in-At : goal.returns-in-At
