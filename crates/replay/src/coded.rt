@@ -45,28 +45,38 @@ fn rows<const N: usize>(out: &mut Vec<u8>, xs: &[[u64; N]], count: u64) -> Resul
 }
 
 // What an exported function wrote into a buffer, by what it returned; none where it refused.
-fn written(mut buffer: Vec<u8>, told: u64) -> Option<Vec<u8>> {
+fn written(told: u64, buffer: &[u8]) -> Option<&[u8]> {
     if told % HALF != 0 {
         return None;
     }
-    buffer.truncate((told / HALF) as usize);
-    Some(buffer)
+    buffer.get(..(told / HALF) as usize)
 }
 
-fn buffer(alloc: Global) -> Result<Vec<u8>, AllocError> {
-    Ok(vec![in alloc; 0u8; ENOUGH]?)
+// Puts behind `out` what an exported function writes; none where it refuses.
+fn put<F: FnOnce(&mut [u8]) -> u64>(out: &mut Vec<u8>, write: F) -> Result<Option<()>, AllocError>
+    requires { F.IsAlwaysCallable write }
+{
+    let mut buffer = [0; ENOUGH];
+    let told = write(&mut buffer);
+    let Some(bytes) = written(told, &buffer) else {
+        return Ok(None);
+    };
+    out.extend_from_slice(bytes)?;
+    Ok(Some(()))
 }
 
-fn sheet(alloc: Global, sheet: &[u32; SHEET]) -> Result<Option<Vec<u8>>, AllocError> {
-    let mut out = buffer(alloc)?;
-    let told = in_bytes::kuxhoveza_write_sheet(sheet, &mut out);
-    Ok(written(out, told))
+fn sheet(out: &mut Vec<u8>, sheet: &[u32; SHEET]) -> Result<Option<()>, AllocError> {
+    put(
+        out,
+        |buffer: &mut [u8]| in_bytes::kuxhoveza_write_sheet(sheet, buffer),
+    )
 }
 
-fn run(alloc: Global, record: &[u64]) -> Result<Option<Vec<u8>>, AllocError> {
-    let mut out = buffer(alloc)?;
-    let told = in_bytes::kuxhoveza_write_run(record, &mut out);
-    Ok(written(out, told))
+fn run(out: &mut Vec<u8>, record: &[u64]) -> Result<Option<()>, AllocError> {
+    put(
+        out,
+        |buffer: &mut [u8]| in_bytes::kuxhoveza_write_run(record, buffer),
+    )
 }
 
 // A recorded call; none where its sheet or its run isn't written, or it has more mapping answers than a call in bytes can have.
@@ -76,21 +86,17 @@ fn call(alloc: Global, sample: &Sample) -> Result<Option<Vec<u8>>, AllocError> {
     if answered > layout::MAPPINGS as u64 {
         return Ok(None);
     }
-    let Some(graph) = sheet(alloc, &sample.sheet)? else {
-        return Ok(None);
-    };
     let mut out = Vec::new(alloc);
     numbers(&mut out, &call[..layout::CALL_HAS_RECORD])?;
-    out.extend_from_slice(&graph)?;
+    if sheet(&mut out, &sample.sheet)?.is_none() {
+        return Ok(None);
+    }
     numbers(
         &mut out,
         &call[layout::CALL_HAS_RECORD..layout::CALL_SEQUENCE],
     )?;
-    if call[layout::CALL_HAS_RECORD] == 1 {
-        let Some(given) = run(alloc, &sample.record)? else {
-            return Ok(None);
-        };
-        out.extend_from_slice(&given)?;
+    if call[layout::CALL_HAS_RECORD] == 1 && run(&mut out, &sample.record)?.is_none() {
+        return Ok(None);
     }
     numbers(
         &mut out,
@@ -115,18 +121,14 @@ fn answer(alloc: Global, xs: &[u64; layout::ANSWER]) -> Result<Option<Vec<u8>>, 
         rows(&mut out, notes, xs[layout::ANSWER_NOTED])?;
         rows(&mut out, endings, xs[layout::ANSWER_ENDED])?;
     }
-    let Some(record) = run(alloc, &xs[layout::ANSWER_RECORD..])? else {
-        return Ok(None);
-    };
-    out.extend_from_slice(&record)?;
-    Ok(Some(out))
+    Ok(run(&mut out, &xs[layout::ANSWER_RECORD..])?.map(|()| out))
 }
 
 // What the call in bytes says is what the recorded answer says, and past its bytes nothing is written.
 fn agrees(
     alloc: Global,
     told: u64,
-    out: &Vec<u8>,
+    out: &[u8],
     xs: &[u64; layout::ANSWER],
 ) -> Result<bool, AllocError> {
     if xs[layout::ANSWER_KIND] == 3 {
@@ -135,19 +137,20 @@ fn agrees(
                 && told / HALF == xs[layout::ANSWER_REFUSAL_ITEM],
         );
     }
-    let Some(mut due) = answer(alloc, xs)? else {
+    let Some(due) = answer(alloc, xs)? else {
         return Ok(false);
     };
-    let size = due.len() as u64;
-    due.resize(ENOUGH, 0)?;
-    Ok(told % HALF == 0 && told / HALF == size && *out == due)
+    let Some(bytes) = written(told, out) else {
+        return Ok(false);
+    };
+    Ok(bytes == due.as_slice() && out.iter().skip(bytes.len()).all(|x| *x == 0))
 }
 
 pub fn judge(alloc: Global, sample: &Sample) -> Result<Judged, AllocError> {
     let Some(bytes) = call(alloc, sample)? else {
         return Ok(Judged::Unwritten);
     };
-    let mut out = buffer(alloc)?;
+    let mut out = [0; ENOUGH];
     let told = in_bytes::kuxhoveza_call(&bytes, &mut out);
     Ok(if agrees(alloc, told, &out, &sample.answer)? {
         Judged::Agrees
