@@ -18,6 +18,19 @@ pub enum Judged {
     Differs,
 }
 
+// Why something has no bytes.
+#[derive(Drop)]
+enum Unwritten {
+    Refused,
+    Memory(AllocError),
+}
+
+impl From<AllocError> for Unwritten {
+    fn from(error: AllocError) -> Unwritten {
+        Unwritten::Memory(error)
+    }
+}
+
 // A number as LEB128.
 fn number(out: &mut Vec<u8>, n: u64) -> Result<(), AllocError> {
     let mut rest = n;
@@ -52,51 +65,45 @@ fn written(told: u64, buffer: &[u8]) -> Option<&[u8]> {
     buffer.get(..(told / HALF) as usize)
 }
 
-// Puts behind `out` what an exported function writes; none where it refuses.
-fn put<F: FnOnce(&mut [u8]) -> u64>(out: &mut Vec<u8>, write: F) -> Result<Option<()>, AllocError>
+// Puts behind `out` what an exported function writes.
+fn put<F: FnOnce(&mut [u8]) -> u64>(out: &mut Vec<u8>, write: F) -> Result<(), Unwritten>
     requires { F.IsAlwaysCallable write }
 {
     let mut buffer = [0; ENOUGH];
     let told = write(&mut buffer);
-    let Some(bytes) = written(told, &buffer) else {
-        return Ok(None);
-    };
+    let bytes = written(told, &buffer).ok_or(Unwritten::Refused)?;
     out.extend_from_slice(bytes)?;
-    Ok(Some(()))
+    Ok(())
 }
 
-fn sheet(out: &mut Vec<u8>, sheet: &[u32; SHEET]) -> Result<Option<()>, AllocError> {
-    put(
-        out,
-        |buffer: &mut [u8]| in_bytes::kuxhoveza_write_sheet(sheet, buffer),
-    )
+fn sheet(out: &mut Vec<u8>, sheet: &[u32; SHEET]) -> Result<(), Unwritten> {
+    put(out, |buffer: &mut [u8]| {
+        in_bytes::kuxhoveza_write_sheet(sheet, buffer)
+    })
 }
 
-fn run(out: &mut Vec<u8>, record: &[u64]) -> Result<Option<()>, AllocError> {
-    put(
-        out,
-        |buffer: &mut [u8]| in_bytes::kuxhoveza_write_run(record, buffer),
-    )
+fn run(out: &mut Vec<u8>, record: &[u64]) -> Result<(), Unwritten> {
+    put(out, |buffer: &mut [u8]| {
+        in_bytes::kuxhoveza_write_run(record, buffer)
+    })
 }
 
-// A recorded call; none where its sheet or its run isn't written, or it has more mapping answers than a call in bytes can have.
-fn call(alloc: Global, sample: &Sample) -> Result<Option<Vec<u8>>, AllocError> {
+// A recorded call; refused where its sheet or its run is, or it has more mapping answers than a call in bytes can have.
+fn call(alloc: Global, sample: &Sample) -> Result<Vec<u8>, Unwritten> {
     let call = &sample.call;
     let answered = call[layout::CALL_ANSWERED];
     if answered > layout::MAPPINGS as u64 {
-        return Ok(None);
+        return Err(Unwritten::Refused);
     }
     let mut out = Vec::new(alloc);
     numbers(&mut out, &call[..layout::CALL_HAS_RECORD])?;
-    if sheet(&mut out, &sample.sheet)?.is_none() {
-        return Ok(None);
-    }
+    sheet(&mut out, &sample.sheet)?;
     numbers(
         &mut out,
         &call[layout::CALL_HAS_RECORD..layout::CALL_SEQUENCE],
     )?;
-    if call[layout::CALL_HAS_RECORD] == 1 && run(&mut out, &sample.record)?.is_none() {
-        return Ok(None);
+    if call[layout::CALL_HAS_RECORD] == 1 {
+        run(&mut out, &sample.record)?;
     }
     numbers(
         &mut out,
@@ -104,11 +111,11 @@ fn call(alloc: Global, sample: &Sample) -> Result<Option<Vec<u8>>, AllocError> {
     )?;
     let (mappings, _) = call[layout::CALL_MAPPINGS..].as_chunks::<{ layout::MAPPING_WIDTH }>();
     rows(&mut out, mappings, answered)?;
-    Ok(Some(out))
+    Ok(out)
 }
 
-// A recorded answer that isn't a refusal; none where its run isn't written.
-fn answer(alloc: Global, xs: &[u64; layout::ANSWER]) -> Result<Option<Vec<u8>>, AllocError> {
+// A recorded answer that isn't a refusal.
+fn answer(alloc: Global, xs: &[u64; layout::ANSWER]) -> Result<Vec<u8>, Unwritten> {
     let mut out = Vec::new(alloc);
     if xs[layout::ANSWER_KIND] == 2 {
         numbers(&mut out, &xs[..layout::WANT_WIDTH])?;
@@ -121,7 +128,8 @@ fn answer(alloc: Global, xs: &[u64; layout::ANSWER]) -> Result<Option<Vec<u8>>, 
         rows(&mut out, notes, xs[layout::ANSWER_NOTED])?;
         rows(&mut out, endings, xs[layout::ANSWER_ENDED])?;
     }
-    Ok(run(&mut out, &xs[layout::ANSWER_RECORD..])?.map(|()| out))
+    run(&mut out, &xs[layout::ANSWER_RECORD..])?;
+    Ok(out)
 }
 
 // What the call in bytes says is what the recorded answer says, and past its bytes nothing is written.
@@ -130,31 +138,29 @@ fn agrees(
     told: u64,
     out: &[u8],
     xs: &[u64; layout::ANSWER],
-) -> Result<bool, AllocError> {
+) -> Result<bool, Unwritten> {
     if xs[layout::ANSWER_KIND] == 3 {
         return Ok(
             told % HALF == xs[layout::ANSWER_REFUSAL_NUMBER]
                 && told / HALF == xs[layout::ANSWER_REFUSAL_ITEM],
         );
     }
-    let Some(due) = answer(alloc, xs)? else {
-        return Ok(false);
-    };
-    let Some(bytes) = written(told, out) else {
-        return Ok(false);
-    };
+    let due = answer(alloc, xs)?;
+    let bytes = written(told, out).ok_or(Unwritten::Refused)?;
     Ok(bytes == due.as_slice() && out.iter().skip(bytes.len()).all(|x| *x == 0))
 }
 
 pub fn judge(alloc: Global, sample: &Sample) -> Result<Judged, AllocError> {
-    let Some(bytes) = call(alloc, sample)? else {
-        return Ok(Judged::Unwritten);
+    let bytes = match call(alloc, sample) {
+        Ok(bytes) => bytes,
+        Err(Unwritten::Refused) => return Ok(Judged::Unwritten),
+        Err(Unwritten::Memory(error)) => return Err(error),
     };
     let mut out = [0; ENOUGH];
     let told = in_bytes::kuxhoveza_call(&bytes, &mut out);
-    Ok(if agrees(alloc, told, &out, &sample.answer)? {
-        Judged::Agrees
-    } else {
-        Judged::Differs
-    })
+    match agrees(alloc, told, &out, &sample.answer) {
+        Ok(true) => Ok(Judged::Agrees),
+        Ok(false) | Err(Unwritten::Refused) => Ok(Judged::Differs),
+        Err(Unwritten::Memory(error)) => Err(error),
+    }
 }
