@@ -3,7 +3,6 @@
 use crate::sample::Sample;
 use host::layout;
 use std::alloc::{AllocError, Global};
-use workflow::layout::NUMBERS as SHEET;
 
 // More bytes than a call has, or an answer.
 const ENOUGH: usize = 65536;
@@ -34,6 +33,7 @@ impl From<AllocError> for Unwritten {
 // A number as LEB128.
 fn number(out: &mut Vec<u8>, n: u64) -> Result<(), AllocError> {
     let mut rest = n;
+    // Kept: this writer stands apart from crate codec, whose answers it judges; it counts no index.
     while 128 <= rest {
         out.push((rest % 128) as u8 + 128)?;
         rest /= 128;
@@ -49,9 +49,13 @@ fn numbers(out: &mut Vec<u8>, xs: &[u64]) -> Result<(), AllocError> {
     Ok(())
 }
 
-// As many rows as a count says.
-fn rows<const N: usize>(out: &mut Vec<u8>, xs: &[[u64; N]], count: u64) -> Result<(), AllocError> {
-    for row in xs.iter().take(count as usize) {
+// As many rows as a count says; refused where there are fewer.
+fn first<const N: usize>(rows: &[[u64; N]], count: u64) -> Result<&[[u64; N]], Unwritten> {
+    rows.get(..count as usize).ok_or(Unwritten::Refused)
+}
+
+fn rows<const N: usize>(out: &mut Vec<u8>, xs: &[[u64; N]]) -> Result<(), AllocError> {
+    for row in xs {
         numbers(out, row)?;
     }
     Ok(())
@@ -76,12 +80,6 @@ fn put<F: FnOnce(&mut [u8]) -> u64>(out: &mut Vec<u8>, write: F) -> Result<(), U
     Ok(())
 }
 
-fn sheet(out: &mut Vec<u8>, sheet: &[u32; SHEET]) -> Result<(), Unwritten> {
-    put(out, |buffer: &mut [u8]| {
-        in_bytes::kuxhoveza_write_sheet(sheet, buffer)
-    })
-}
-
 fn run(out: &mut Vec<u8>, record: &[u64]) -> Result<(), Unwritten> {
     put(out, |buffer: &mut [u8]| {
         in_bytes::kuxhoveza_write_run(record, buffer)
@@ -91,13 +89,11 @@ fn run(out: &mut Vec<u8>, record: &[u64]) -> Result<(), Unwritten> {
 // A recorded call; refused where its sheet or its run is, or it has more mapping answers than a call in bytes can have.
 fn call(alloc: Global, sample: &Sample) -> Result<Vec<u8>, Unwritten> {
     let call = &sample.call;
-    let answered = call[layout::CALL_ANSWERED];
-    if answered > layout::MAPPINGS as u64 {
-        return Err(Unwritten::Refused);
-    }
     let mut out = Vec::new(alloc);
     numbers(&mut out, &call[..layout::CALL_HAS_RECORD])?;
-    sheet(&mut out, &sample.sheet)?;
+    put(&mut out, |buffer: &mut [u8]| {
+        in_bytes::kuxhoveza_write_sheet(&sample.sheet, buffer)
+    })?;
     numbers(
         &mut out,
         &call[layout::CALL_HAS_RECORD..layout::CALL_SEQUENCE],
@@ -110,7 +106,7 @@ fn call(alloc: Global, sample: &Sample) -> Result<Vec<u8>, Unwritten> {
         &call[layout::CALL_SEQUENCE..layout::CALL_MAPPINGS],
     )?;
     let (mappings, _) = call[layout::CALL_MAPPINGS..].as_chunks::<{ layout::MAPPING_WIDTH }>();
-    rows(&mut out, mappings, answered)?;
+    rows(&mut out, first(mappings, call[layout::CALL_ANSWERED])?)?;
     Ok(out)
 }
 
@@ -125,8 +121,8 @@ fn answer(alloc: Global, xs: &[u64; layout::ANSWER]) -> Result<Vec<u8>, Unwritte
         let endings = &xs[layout::ANSWER_ENDINGS..layout::ANSWER_RECORD];
         let (endings, _) = endings.as_chunks::<{ layout::ENDING_WIDTH }>();
         numbers(&mut out, &xs[..layout::ANSWER_NOTES])?;
-        rows(&mut out, notes, xs[layout::ANSWER_NOTED])?;
-        rows(&mut out, endings, xs[layout::ANSWER_ENDED])?;
+        rows(&mut out, first(notes, xs[layout::ANSWER_NOTED])?)?;
+        rows(&mut out, first(endings, xs[layout::ANSWER_ENDED])?)?;
     }
     run(&mut out, &xs[layout::ANSWER_RECORD..])?;
     Ok(out)
