@@ -260,9 +260,9 @@ fn go(rt: &impl Print, w: &[u32; NUMBERS], run: Run, what: &[u8], event: Event) 
             text(rt, b"\n")?;
             Ok(run)
         }
-        Answer::Refused { number: n, item } => {
+        Answer::Refused { refusal, item } => {
             text(rt, b": refused with ")?;
-            number(rt, n)?;
+            number(rt, refusal.number())?;
             text(rt, b", item ")?;
             number(rt, item)?;
             text(rt, b"\n")?;

@@ -5,13 +5,13 @@ use Rattle.std.proofs.Math.Path.{sym}
 use Rattle.std.proofs.lemmas.Bool.{false≢true}
 use Rattle.laws.specs.Bool.{both}
 use Rattle.workflow.specs.View.{Workflow}
+use Rattle.workflow.specs.declared.refusal.Refusal.{Refusal}
 use Rattle.graph.specs.Chain.{stage, stage_fine, rule_holds}
 use Rattle.model.specs.declared.State.{State}
 use Rattle.model.specs.Record.{fresh}
 use Rattle.model.specs.StoreLaws.{fits_few}
 use Rattle.snapshot.specs.Check.{consistent}
 use Rattle.kernel.specs.declared.Call.{Call}
-use Rattle.kernel.specs.Code.{inconsistent}
 use Rattle.kernel.specs.Drive.{driven}
 use Rattle.kernel.specs.Call.{given_record, start_stage, next_stage, record_stage, admission, given, refused, finish, transition_by, transition}
 use Rattle.kernel.specs.Decision.{decision_of}
@@ -29,7 +29,7 @@ unfolding admission next_stage consistent
 room_of f s c false z h = absurd (false≢true z)
 room_of f s c true z h =
     let g : next_stage f s c.event.kind c.event.sequence ≡ Ok tt = stage_fine (sym h) (search stage depth 8) in
-    let e : consistent f s ≡ true = rule_holds inconsistent g (search stage depth 8) in
+    let e : consistent f s ≡ true = rule_holds Refusal.Inconsistent g (search stage depth 8) in
     fits_few s (both _ _ (both _ _ e).1).0
 
 -- The record that the step starts at.
@@ -42,7 +42,7 @@ module _ (s : State) (c : Call) (b : Bool) where
 
 -- A call is turned away, or its step is done.
 module _ (f : Workflow) (s : State) (c : Call) (b : Bool) where
-  pub is_away : (k i : ℕ) → broken k i ≡ admission f (given_record b s) c → decision_of (refused k i) ≡ decision_of (transition f (given_record b s) c)
+  pub is_away : (k : Refusal) (i : ℕ) → broken k i ≡ admission f (given_record b s) c → decision_of (refused k i) ≡ decision_of (transition f (given_record b s) c)
   unfolding transition transition_by
   is_away k i h = rw (sym h)
 
