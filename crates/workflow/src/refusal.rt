@@ -5,7 +5,8 @@ ghost use Rattle.std.specs.Prelude.{◌≡◌};
 pub enum Refusal {
     // The original's kernel.invariant, which no call is answered with.
     Invariant = 0,
-    // The sheet's rules.
+    // The sheet's rules: its format, and params in format 1; how many nodes; the start; the limits; what an action declares; the routes of an activity and of an
+    // await-signal node; loop limits; nodes that the start does not reach, and that reach no end; a reconcilable action.
     Format = 1,
     Nodes = 3,
     Start = 5,
@@ -26,11 +27,11 @@ pub enum Refusal {
     NotStarted = 23,
     StartedBefore = 24,
     Inconsistent = 25,
-    // The step.
+    // The step: a microstep over its limit; no time or number for a retry; a mapping value that can't be encoded.
     MicrostepsExceeded = 26,
     NoRetry = 27,
     Unencodable = 28,
-    // The finish.
+    // The finish: orders over the command limit; operations over theirs.
     CommandsExceeded = 29,
     OperationsExceeded = 30,
     // Bytes: what is read; the room for what is written.
