@@ -346,7 +346,7 @@ table_rises w a k g e =
       fits = g;
       rise = λ i j l h.
           at_or_before i j l (λ q. rw q (omega arith))
-          (λ m. leb-true _ _ (pairwise (λ i j. leb (cell w a i) (cell w a j)) (λ j. j) k (λ x y z. leb_on (cell w a x) (cell w a y) (cell w a z)) e i j m h));
+          (λ m. leb-true _ _ (pairwise leb (cell w a) k leb_on e i j m h));
     }
 
 module _ (w : List ℕ) (s : Sorted (workflow w)) where
