@@ -9,9 +9,14 @@ use denote.Ref.{Bor}
 use Rattle.std.specs.declared.ops.Range.{Range}
 use Rattle.std.specs.Bool.{MatchBool}
 use Rattle.std.specs.Option.{MatchOption}
-use Rattle.std.specs.Fn.{Called}
+use Rattle.std.specs.Fn.{Called, CalledAt}
+use Rattle.std.specs.Iterator.Adapters.{take_while_source, take_while_done, take_while_callee, take_while_steps}
+use Rattle.std.specs.declared.iter.TakeWhile.{TakeWhile}
+use Rattle.std.proofs.lemmas.Iterator.Consumers.{count_from_yields_List}
+use Rattle.std.proofs.lemmas.Iterator.Search.{YieldsList-from_take_while}
+use Rattle.std.proofs.lemmas.List.Folds.{length-prefix_len}
 use Rattle.std.specs.Iterator.{YieldsThen, Drains}
-use Rattle.std.specs.List.{range_with_len, FoldsTo, AllWithin, HoldsAt, list_all, list_any}
+use Rattle.std.specs.List.{range_with_len, FoldsTo, AllWithin, HoldsAt, list_all, list_any, prefix_len}
 use Rattle.std.proofs.iter.Yields.{nat_range_steps}
 use Rattle.std.proofs.lemmas.Iterator.{YieldsList, YieldsList-from_range, cases_from_all}
 use Rattle.std.proofs.lemmas.Fn.{fold_over}
@@ -137,3 +142,9 @@ pub fold_zeros : {S A F : Type 0} {steps : S → Option A → S → Type 0} {v :
 unfolding every
 fold_zeros {steps = steps} {v = v} {g = g} {s = s} {ys = ys} {f = f} {r = r} h ran yields =
     sym (fold_over steps v g (λ xs d. zeros xs ≡ eqb d 0) f (λ xs d x e q j k. let t = h d e x q k in (zeros_more xs (v x) d e j t.0, t.1)) s ys 0 r yields.runs refl ran)
+
+-- How many items pass before the first that does not, as `take_while` and `count` say it.
+pub run_length : {S A B F : Type 0} {steps : S → Option A → S → Type 0} {v : A → B} {g : Mut F (Bor A × Unit {0}) Bool} {f : F} {s : TakeWhile S F} (p : B → Bool) (ys : List B) (r : ℕ)
+    → take_while_callee s ≡ f → take_while_done s ≡ false → ((x : A) (b : Bool) (q : F) → CalledAt g f x b q → (q ≡ f) × (b ≡ p (v x)))
+    → YieldsList steps v (take_while_source s) ys → (xs : List A) × Drains (take_while_steps steps g) s xs × (r ≡ length xs) → r ≡ prefix_len p ys
+run_length {g = g} {s = s} p ys r callee done h y ran = count_from_yields_List s r ran (YieldsList-from_take_while g p y callee done h) ∙ length-prefix_len p ys

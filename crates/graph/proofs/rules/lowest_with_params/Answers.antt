@@ -9,14 +9,17 @@ use Rattle.graph.proofs.rules.lowest_with_params.Goals as goal
 pub returns-then-is_0_2 : goal.returns-then-is_0_2
 returns-then-is_0_2 c = no_params c.args.w.now (sym c.is_0_2.ensures ∙ c.if-is_0_2.true)
 
-pub loop-i-init : goal.loop-i-init
-loop-i-init c = seek_start
+pub loop-node-init : goal.loop-node-init
+loop-node-init c = seek_start
 
-pub returns-then-w-i-eq1 : goal.returns-then-w-i-eq1
-returns-then-w-i-eq1 c = seek_hit c.loop-i.invariant (omega (arith, (parts_of _ c.requires).few_nodes)) refl (with_params c.args.w.now c.loop-i.i (omega arith) (sym c.is_0_2.ensures ∙ c.if-is_0_2.false)) (eq-eqb _ _ c.if-w-i-eq1.true)
+pub bounds-w-node : goal.bounds-w-node
+bounds-w-node c = omega (arith, (parts_of _ c.requires).few_nodes)
 
-pub loop-i-preserved : goal.loop-i-preserved
-loop-i-preserved c = seek_miss c.loop-i.invariant (omega (arith, (parts_of _ c.requires).few_nodes)) refl (with_params c.args.w.now c.loop-i.i (omega arith) (sym c.is_0_2.ensures ∙ c.if-is_0_2.false)) (ne_eqb _ _ c.if-w-i-eq1.false)
+pub returns-then-w-node-eq1 : goal.returns-then-w-node-eq1
+returns-then-w-node-eq1 c = seek_hit c.loop-node.invariant (omega (arith, (parts_of _ c.requires).few_nodes)) refl (with_params c.args.w.now c.loop-node.node (omega (arith, (parts_of _ c.requires).few_nodes)) (sym c.is_0_2.ensures ∙ c.if-is_0_2.false)) (eq-eqb _ _ c.if-w-node-eq1.true)
+
+pub loop-node-preserved : goal.loop-node-preserved
+loop-node-preserved c = seek_miss c.loop-node.invariant (omega (arith, (parts_of _ c.requires).few_nodes)) refl (with_params c.args.w.now c.loop-node.node (omega (arith, (parts_of _ c.requires).few_nodes)) (sym c.is_0_2.ensures ∙ c.if-is_0_2.false)) (ne_eqb _ _ c.if-w-node-eq1.false)
 
 pub returns : goal.returns
-returns c = seek_end c.loop-i.invariant (omega (arith, (parts_of _ c.requires).few_nodes))
+returns c = seek_end c.loop-node.invariant (omega (arith, (parts_of _ c.requires).few_nodes))
