@@ -212,7 +212,10 @@ fn misroutes(w: &[u32; NUMBERS], node: u32, routes: Rows, action: u32) -> bool
     let exhausted = may_route_exhausted(w, node);
     has_unmarked(declared, &marks(routed))
         || has_unmarked(routed, &known(declared, exhausted))
-        || leads_nowhere(routes.numbers(w, layout::ROUTE_TARGET), w[layout::NODE_COUNT])
+        || leads_nowhere(
+            routes.numbers(w, layout::ROUTE_TARGET),
+            w[layout::NODE_COUNT],
+        )
 }
 
 fn breaks_8(w: &[u32; NUMBERS], node: u32, routes: Rows) -> bool
@@ -243,7 +246,10 @@ fn breaks_9(w: &[u32; NUMBERS], node: u32, routes: Rows) -> bool
     x.kind == code::AWAIT_SIGNAL
         && (routes.is_empty()
             || routes_exhausted(w, node, routes)
-            || leads_nowhere(routes.numbers(w, layout::ROUTE_TARGET), w[layout::NODE_COUNT]))
+            || leads_nowhere(
+                routes.numbers(w, layout::ROUTE_TARGET),
+                w[layout::NODE_COUNT],
+            ))
 }
 
 // Rule 12.

@@ -1,5 +1,5 @@
 -- Chains of iterators in this repository's words.
-use Rattle.std.specs.Prelude.{◌≡◌, refl, Bool, true, false, List, [], ◌∷◌, ℕ, zero, suc, ◌+◌, ◌-◌, ◌≤◌, ◌<◌, length, get_or, Option, ◌&&◌, ◌||◌}
+use Rattle.std.specs.Prelude.{◌≡◌, refl, Bool, true, false, List, [], ◌∷◌, ℕ, zero, suc, ◌+◌, ◌-◌, ◌≤◌, ◌<◌, length, get_or, Option}
 use Rattle.std.specs.Int.Bits.{bit_or, or_add_and, or_zero_l}
 use Rattle.std.proofs.lemmas.Nat.{and_le_l, and_le_r}
 use Rattle.std.proofs.lemmas.Bool.{eqb-false}
@@ -20,7 +20,7 @@ use Rattle.std.specs.List.{range_with_len, FoldsTo, AllWithin, HoldsAt, list_all
 use Rattle.std.proofs.iter.Yields.{nat_range_steps}
 use Rattle.std.proofs.lemmas.Iterator.{YieldsList, YieldsList-from_range, cases_from_all}
 use Rattle.std.proofs.lemmas.Fn.{fold_over}
-use Rattle.laws.specs.Bool.{when◌then◌else◌, ◌and◌, ◌or◌, split, strict_and}
+use Rattle.laws.specs.Bool.{when◌then◌else◌, ◌and◌, split, strict_and}
 use Rattle.laws.specs.Rows.{rows, span}
 use Rattle.laws.specs.Every.{every}
 use Rattle.laws.specs.First.{first, some}

@@ -1,4 +1,3 @@
-use Prim.Native.Nat.{◌-◌}
 use Rattle.laws.specs.First.{Seek}
 use Rattle.workflow.specs.declared.Found.TheVariants.{At, Nothing}
 use Rattle.workflow.specs.View.{cell}

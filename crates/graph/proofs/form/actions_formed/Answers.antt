@@ -1,4 +1,4 @@
-use Rattle.std.proofs.Common.{rules, ◌∙◌, ap}
+use Rattle.std.proofs.Common.{rules, ◌∙◌}
 use borrow.Author.Tests.{tests}
 use Rattle.laws.specs.Chains.{range_all}
 use Rattle.workflow.specs.View.{action_at}

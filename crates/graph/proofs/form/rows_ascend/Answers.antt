@@ -1,4 +1,4 @@
-use Rattle.std.proofs.Common.{rules, ℕ, ◌-◌, ◌∙◌, ap}
+use Rattle.std.proofs.Common.{rules, ℕ, ◌-◌, ◌∙◌}
 use borrow.Author.Tests.{tests}
 use Rattle.laws.specs.Chains.{range_all}
 use Rattle.workflow.specs.View.{cell}

@@ -1,5 +1,4 @@
 use Rattle.graph.specs.ReachLaws.{walk_start, walk_next, walk_less, walk_step, walk_end}
-use native.Mathlib.Omega.{arith}
 use Rattle.graph.proofs.reach.closed.Goals as goal
 
 pub masks-masks-requires : goal.masks-masks-requires

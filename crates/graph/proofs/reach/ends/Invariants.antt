@@ -1,5 +1,4 @@
 use mathlib.Core.Path.{◌≡◌}
-use Prim.Native.Nat.{◌-◌, ◌≤◌}
 use Rattle.laws.specs.Rows.{span}
 use Rattle.workflow.specs.Layout.{node_count}
 use Rattle.workflow.specs.View.{workflow, at}
