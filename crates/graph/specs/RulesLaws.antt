@@ -1,5 +1,5 @@
 -- What the code of the rules looks at: the rows of one node or action, and outcomes as marks.
-use Rattle.std.specs.Prelude.{◌≡◌, Bool, not, List, [], ◌∷◌, get_or, length, set, replicate, drop, ltb, leb}
+use Rattle.std.specs.Prelude.{◌≡◌, Bool, not, List, [], ◌∷◌, get_or, length, set, replicate, drop, ltb, leb, Some, None}
 use Rattle.std.specs.List.{All}
 use Rattle.std.proofs.Math.Path.{refl, sym, ap}
 use Rattle.std.proofs.Common.{◌∙◌, add-one, drop-cons, drop_of_length-le, get_or-set_same, get_or-set_other}
@@ -21,7 +21,6 @@ use Rattle.workflow.specs.Layout as layout
 use Rattle.workflow.specs.View.{Workflow, workflow, at, cell, no_node, node_at, route_at, limit_at, declared_at, node_rows, route_rows, limit_rows, declared_rows}
 use Rattle.workflow.specs.RowLaws.{route_row, limit_row, declared_row, found_first}
 use Rattle.workflow.specs.Lookup.{is_0_2, node_of, policy_of, are, is_route, route_of, routed, is_declared, declares}
-use Rattle.workflow.specs.declared.Found.TheVariants.{At, Nothing}
 use Rattle.graph.specs.declared.search.Rows.{Rows}
 use Rattle.graph.specs.RowsOf.{rows_of, Within}
 use Rattle.graph.specs.Lowest.{lowest}
@@ -466,10 +465,10 @@ module _ (w : List ℕ) where
   unfolding ◌and◌
   with_params i h f = rw (params_at i h, f)
 
-  pub no_params : is_0_2 (workflow w) ≡ true → Nothing ≡ lowest (at w layout.node_count) (breaks_1 (workflow w))
+  pub no_params : is_0_2 (workflow w) ≡ true → None ≡ lowest (at w layout.node_count) (breaks_1 (workflow w))
   unfolding ◌and◌
   no_params e =
-      first_none (breaks_1 (workflow w)) (λ _ n. At n) Nothing (λ n. n) (at w layout.node_count) (λ _. false) (λ j h. rw e) {c = at w layout.node_count}
+      first_none (breaks_1 (workflow w)) (λ _ n. Some n) None (λ n. n) (at w layout.node_count) (λ _. false) (λ j h. rw e) {c = at w layout.node_count}
       (the_cut (record { within = omega arith; below = λ j h. refl; fails = λ h. absurd (omega arith) }))
       (omega arith)
 

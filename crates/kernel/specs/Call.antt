@@ -1,10 +1,8 @@
 -- A call, whole and in the order of document 01: sheet, event, record, step, finish.
-use Rattle.std.specs.Prelude.{Bool, true, false, not, List, [], ◌∷◌, ◌++◌, ℕ, ◌+◌, ltb, eqb}
+use Rattle.std.specs.Prelude.{Bool, true, false, not, List, [], ◌∷◌, ◌++◌, ℕ, ◌+◌, ltb, eqb, Ok, Err}
 use Rattle.laws.specs.Bool.{when◌then◌else◌}
 use Rattle.workflow.specs.View.{Workflow}
-use Rattle.graph.specs.declared.Verdict.{Verdict}
-use Rattle.graph.specs.declared.Verdict.TheVariants.{Fine, Broken}
-use Rattle.graph.specs.Verdict.{rule, first_broken, verdict}
+use Rattle.graph.specs.Verdict.{rule, first_broken, verdict, Verdict}
 use Rattle.model.specs.declared.State.{State}
 use Rattle.model.specs.declared.answer.Order.{Order}
 use Rattle.model.specs.declared.answer.Note.{Note}
@@ -125,8 +123,8 @@ finish limits machine = finish_by machine.next limits machine
 
 -- THE CALL: the first broken stage is the answer, else the step is done and finished.
 unfoldable pub transition_by : Verdict → Workflow → Last → Call → Answer
-transition_by (Broken number item) sheet standing call = refused number item
-transition_by Fine sheet standing call = finish call.limits (driven sheet call.limits.microsteps call.event call.mappings (given standing call))
+transition_by (Err broken) sheet standing call = refused broken.rule broken.item
+transition_by (Ok tt) sheet standing call = finish call.limits (driven sheet call.limits.microsteps call.event call.mappings (given standing call))
 
 unfoldable pub transition : Workflow → Last → Call → Answer
 transition sheet standing call = transition_by (admission sheet standing call) sheet standing call

@@ -10,8 +10,8 @@ use crate::reaction::Reaction;
 use model::answer::Note;
 use model::event::Event;
 use model::{ErrorInfo, InvocationState, Kept, Output, Position, code};
+use workflow::code as sheet;
 use workflow::layout::NUMBERS;
-use workflow::{Found, code as sheet};
 
 // There is an invocation, and its node and visit are those named.
 pub fn named(invocation: InvocationState, event: Event) -> bool
@@ -42,11 +42,7 @@ pub fn applies(invocation: InvocationState, event: Event) -> bool
 fn is_routed(w: &[u32; NUMBERS], node: u32, outcome: u32) -> bool
     ensures { result ≡ routed (workflow w.now) node outcome }
 {
-    let target = workflow::find_route(w, node, outcome);
-    match target {
-        Found::At(_) => true,
-        Found::Nothing => false,
-    }
+    workflow::find_route(w, node, outcome).is_some()
 }
 
 // Format 2 parks a result's failure.

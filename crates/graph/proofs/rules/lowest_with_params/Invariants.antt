@@ -1,6 +1,6 @@
+use Rattle.std.specs.Prelude.{Some, None}
 use Rattle.workflow.specs.Layout as layout
 use Rattle.laws.specs.First.{Seek}
-use Rattle.workflow.specs.declared.Found.TheVariants.{At, Nothing}
 use Rattle.workflow.specs.View.{workflow, at}
 use Rattle.graph.specs.Rules.{breaks_1}
 use Rattle.graph.specs.Lowest.{lowest}
@@ -8,4 +8,4 @@ use Rattle.graph.proofs.rules.lowest_with_params.Given as goal
 
 -- the lowest from i on is the whole answer
 abbrev pub invariant-loop-node : goal.invariant-loop-node
-invariant-loop-node l = Seek (breaks_1 (workflow l.w)) (λ _ j. At j) Nothing (λ j. j) (at l.w layout.node_count) l.node (lowest (at l.w layout.node_count) (breaks_1 (workflow l.w)))
+invariant-loop-node l = Seek (breaks_1 (workflow l.w)) (λ _ j. Some j) None (λ j. j) (at l.w layout.node_count) l.node (lowest (at l.w layout.node_count) (breaks_1 (workflow l.w)))
