@@ -1,6 +1,6 @@
 -- What the code of the rules looks at: the rows of one node or action, and outcomes as marks.
 use Rattle.std.specs.Prelude.{◌≡◌, Bool, not, List, [], ◌∷◌, get_or, length, set, replicate, drop, ltb, leb, Some, None}
-use Rattle.std.specs.List.{All}
+use Rattle.std.specs.List.{All, zip}
 use Rattle.std.proofs.Math.Path.{refl, sym, ap}
 use Rattle.std.proofs.Common.{◌∙◌, add-one, drop-cons, drop_of_length-le, get_or-set_same, get_or-set_other}
 use Rattle.std.proofs.Math.Bool.{true, false}
@@ -11,7 +11,7 @@ use Rattle.std.proofs.lemmas.List.{get_or-replicate}
 use Rattle.std.proofs.Math.Dec.{eqb}
 use borrow.Author.Tests.{eq-eqb, eqb-true, eqb-false, ltb-true, ltb-false, lt-ltb, le-ltb, ne_eqb}
 use Rattle.laws.specs.Bool.{when◌then◌else◌, ◌and◌, ◌or◌, split, both, and_true, or_false, if_true}
-use Rattle.laws.specs.Rows.{span, span_more, span_none, at_span, length_rows, get_d_rows}
+use Rattle.laws.specs.Rows.{rows, span, span_more, span_none, at_span, length_rows, get_d_rows}
 use Rattle.laws.specs.First.{first, some, Seek, seek_start}
 use Rattle.laws.specs.Every.{every}
 use Rattle.laws.specs.In.{every_in, in_span}
@@ -62,7 +62,11 @@ again m (x ∷ xs) = get_or m x false or again (set m x true) xs
 unfoldable pub out_of_range : (most limit : ℕ) → Bool
 out_of_range k x = eqb x 0 or ltb k (one_above x)
 
--- Parts of rules 8, 9 and 12, and the three by their number.
+-- A limit that is out of range, or whose outcome is not marked.
+abbrev pub bad_row : List Bool → (most : ℕ) → ℕ × ℕ → Bool
+bad_row m most row = unmarked m row.0 or out_of_range most row.1
+
+-- Parts of rules 8, 9 and 12.
 unfoldable pub misroutes : Workflow → (node action : ℕ) → Bool
 misroutes f n a = some (unrouted f n a) f.declared or some (extra f n a) f.routes or some (leads_nowhere f n) f.routes
 
@@ -71,9 +75,6 @@ routes_exhausted f n = is_0_2 f and routed f n exhausted and not (may_route_exha
 
 unfoldable pub misses : Workflow → (node : ℕ) → Bool
 misses f n = some (bad_limit f n) f.limits or not (routed f n exhausted)
-
-unfoldable pub breaks : Workflow → (rule node : ℕ) → Bool
-breaks f r n = when eqb r 8 then breaks_8 f n else when eqb r 9 then breaks_9 f n else breaks_12 f n
 
 -- The rows of the key n stand from a to b.
 pub record Group (w : List ℕ) (c k n a b : ℕ) : Type 0 where
@@ -188,8 +189,18 @@ module _ {A : Type 0} (q : A → Bool) (f : ℕ → A) (k : ℕ) where
         (ap (λ r. s i or r) (some_trim m (i + 1) (omega arith) (λ j l h. t j (omega arith) h)))
 
 -- A test of numbers as one of places.
-some_of : (g : ℕ → ℕ) (b : ℕ) (p : ℕ → Bool) (d i : ℕ) → b ≡ i + d → some p (span g i b) ≡ some_in i b (λ j. p (g j))
+some_of : {A : Type 0} (g : ℕ → A) (b : ℕ) (p : A → Bool) (d i : ℕ) → b ≡ i + d → some p (span g i b) ≡ some_in i b (λ j. p (g j))
 some_of g b p d i e = some_trim p g b (λ j. p (g j)) b (omega arith) (λ j l h. absurd (omega arith)) d i e (λ j l h. refl)
+
+-- Two columns side by side.
+zip_rows : (f g : ℕ → ℕ) (k i : ℕ) → zip (rows f i k) (rows g i k) ≡ rows (λ j. (f j, g j)) i k
+unfolding rows
+zip_rows f g zero i = refl
+zip_rows f g (suc k) i = ap (λ r. (f i, g i) ∷ r) (zip_rows f g k (i + 1))
+
+zip_span : (f g : ℕ → ℕ) (i k : ℕ) → zip (span f i k) (span g i k) ≡ span (λ j. (f j, g j)) i k
+unfolding span
+zip_span f g i k = zip_rows f g (k - i) i
 
 -- MARKS. What is marked after one more.
 module _ (m : List Bool) (x : ℕ) (v : Bool) (long : length m ≡ 256) (small : x < 256) (o : ℕ) where
@@ -447,13 +458,12 @@ pub record Walking {B : Type 0} (p : ℕ → Bool) (v : ℕ → ℕ → B) (e : 
   pub place : from ≡ rows_below w c k i
   pub seek : Seek p v e (λ j. j) total i whole
 
-pub walk_start : {B : Type 0} {p : ℕ → Bool} {v : ℕ → ℕ → B} {e : B} {w : List ℕ} {c k total : ℕ} → Walking p v e w c k total 0 0 (first p v e 0 (span (λ j. j) 0 total))
+pub first_place : (w : List ℕ) (c k : ℕ) → 0 ≡ rows_below w c k 0
 unfolding rows_below
-walk_start {w = w} {c = c} {k = k} =
-    record {
-      place = the_cut (record { within = omega arith; below = λ j h. absurd (omega arith); fails = λ h. le-ltb (cell w c 0) 0 (omega arith) });
-      seek = seek_start;
-    }
+first_place w c k = the_cut (record { within = omega arith; below = λ j h. absurd (omega arith); fails = λ h. le-ltb (cell w c 0) 0 (omega arith) })
+
+pub walk_start : {B : Type 0} {p : ℕ → Bool} {v : ℕ → ℕ → B} {e : B} {w : List ℕ} {c k total : ℕ} → Walking p v e w c k total 0 0 (first p v e 0 (span (λ j. j) 0 total))
+walk_start = record { place = first_place _ _ _; seek = seek_start }
 
 -- RULE 1.
 module _ (w : List ℕ) where
@@ -629,18 +639,16 @@ module _ {w : List ℕ} {n a b : ℕ} (g : Group w layout.route_node (route_rows
 
   module _ {p q : ℕ} (l : Group w layout.limit_node (limit_rows w) n p q) where
     bad_limit_among : some (bad_limit (workflow w) n) (workflow w).limits
-        ≡ some (unmarked (set (marked (span (cell w layout.route_outcome) a b)) exhausted false)) (span (cell w layout.limit_outcome) p q) or some (out_of_range (at w layout.max_visits_per_node)) (span (cell w layout.limit_limit) p q)
+        ≡ some (bad_row (set (marked (span (cell w layout.route_outcome) a b)) exhausted false) (at w layout.max_visits_per_node)) (zip (span (cell w layout.limit_outcome) p q) (span (cell w layout.limit_limit) p q))
     unfolding bad_limit out_of_range
     bad_limit_among =
         let u = ordered (limits_up l) l in
-        let f = unmarked (set (marked (span (cell w layout.route_outcome) a b)) exhausted false) in
-        let h = out_of_range (at w layout.max_visits_per_node) in
-        narrow (limits_up l) l (bad_limit (workflow w) n) (limit_at w) (λ j. f (cell w layout.limit_outcome j) or h (cell w layout.limit_limit j))
+        let bad = bad_row (set (marked (span (cell w layout.route_outcome) a b)) exhausted false) (at w layout.max_visits_per_node) in
+        narrow (limits_up l) l (bad_limit (workflow w) n) (limit_at w) (λ j. bad (cell w layout.limit_outcome j, cell w layout.limit_limit j))
         (λ j i. rw (limit_row w j i, unlike (marked (span (cell w layout.route_outcome) a b)) (cell w layout.limit_outcome j) (marked_long (span (cell w layout.route_outcome) a b)), routed_marked g (cell w layout.limit_outcome j) (limit_outcome_small w l.formed j i), or_assoc (eqb (cell w layout.limit_outcome j) exhausted)))
-        ∙ or_in (λ j. f (cell w layout.limit_outcome j)) (λ j. h (cell w layout.limit_limit j)) (q - p) p q (omega arith)
-        ∙ rw (some_of (cell w layout.limit_outcome) q f (q - p) p (omega arith), some_of (cell w layout.limit_limit) q h (q - p) p (omega arith))
+        ∙ rw zip_span (sym (some_of (λ j. (cell w layout.limit_outcome j, cell w layout.limit_limit j)) q bad (q - p) p (omega arith)))
 
     pub misses_at : get_or m exhausted false ≡ true
-        → misses (workflow w) n ≡ some (unmarked (set m exhausted false)) (span (cell w layout.limit_outcome) p q) or some (out_of_range (at w layout.max_visits_per_node)) (span (cell w layout.limit_limit) p q)
+        → misses (workflow w) n ≡ some (bad_row (set m exhausted false) (at w layout.max_visits_per_node)) (zip (span (cell w layout.limit_outcome) p q) (span (cell w layout.limit_limit) p q))
     unfolding misses
     misses_at h = rw (by_mark h, e) (sym (or_false _) ∙ bad_limit_among)

@@ -5,7 +5,7 @@ ghost use Rattle.graph.specs.Lowest.{lowest};
 ghost use Rattle.graph.specs.Verdict.{rule_at};
 ghost use Rattle.graph.specs.Accepted.{Rules};
 ghost use Rattle.graph.specs.Sets.{turned, closed, breaks_14, breaks_15};
-ghost use Rattle.graph.specs.ReachLaws.{missing, ends, masks};
+ghost use Rattle.graph.specs.ReachLaws.{missing, unreached, ends, masks};
 
 use crate::{Broken, rule_at};
 use workflow::layout::NUMBERS;
@@ -85,46 +85,31 @@ fn missing(set: u64, count: u32) -> Option<u32>
     ensures { result ≡ missing count set }
 {
     let n = u64::trailing_zeros(!set);
-    if n < count {
-        return Some(n);
-    }
-    None
+    (n < count).then_some(n)
 }
 
-// Rules 14 and 15, in format 2.
-
-fn lowest_14(w: &[u32; NUMBERS]) -> Option<u32>
-    requires { Rules (workflow w.now) }
-    ensures { result ≡ lowest (workflow w.now).node_count (breaks_14 (workflow w.now)) }
+// In format 2: the lowest node that is not reached from a set along the routes.
+fn lowest_unreached(w: &[u32; NUMBERS], back: bool, start: u64) -> Option<u32>
+    requires { (Rules (workflow w.now)) × (start < 2 ^ (workflow w.now).node_count) }
+    ensures { result ≡ lowest (workflow w.now).node_count (unreached (workflow w.now) back start) }
 {
     if is_0_2(w) {
-        let reached = closed(w, false, bit(w[layout::START]));
-        return missing(reached, w[layout::NODE_COUNT]);
+        missing(closed(w, back, start), w[layout::NODE_COUNT])
+    } else {
+        None
     }
-    None
 }
 
 pub fn rule_14(w: &[u32; NUMBERS]) -> Result<(), Broken>
     requires { Rules (workflow w.now) }
     ensures { result ≡ rule_at 14 (lowest (workflow w.now).node_count (breaks_14 (workflow w.now))) }
 {
-    rule_at(14, lowest_14(w))
-}
-
-fn lowest_15(w: &[u32; NUMBERS]) -> Option<u32>
-    requires { Rules (workflow w.now) }
-    ensures { result ≡ lowest (workflow w.now).node_count (breaks_15 (workflow w.now)) }
-{
-    if is_0_2(w) {
-        let ending = closed(w, true, ends(w));
-        return missing(ending, w[layout::NODE_COUNT]);
-    }
-    None
+    rule_at(14, lowest_unreached(w, false, bit(w[layout::START])))
 }
 
 pub fn rule_15(w: &[u32; NUMBERS]) -> Result<(), Broken>
     requires { Rules (workflow w.now) }
     ensures { result ≡ rule_at 15 (lowest (workflow w.now).node_count (breaks_15 (workflow w.now))) }
 {
-    rule_at(15, lowest_15(w))
+    rule_at(15, lowest_unreached(w, true, ends(w)))
 }

@@ -1,5 +1,6 @@
 // Rules 1, 3, 5 to 9, 12 and 16 of a sheet whose form holds.
-ghost use Rattle.std.specs.Prelude.{◌≡◌, true, leb, eqb, ltb};
+ghost use Rattle.std.specs.Prelude.{◌≡◌, Bool, true, ℕ, leb, eqb, ltb};
+ghost use Rattle.std.specs.List.{zip};
 ghost use Rattle.laws.specs.Bool.{◌and◌, ◌or◌};
 ghost use Rattle.laws.specs.First.{some};
 ghost use Rattle.workflow.specs.Code.{format_0_1};
@@ -9,7 +10,7 @@ ghost use Rattle.graph.specs.Lowest.{lowest};
 ghost use Rattle.graph.specs.Form.{form};
 ghost use Rattle.graph.specs.Rules.{within, may_route_exhausted, breaks_1, breaks_7, breaks_8, breaks_9, breaks_12};
 ghost use Rattle.graph.specs.Verdict.{rule, rule_at, action_verdict, actions_verdict};
-ghost use Rattle.graph.specs.RulesLaws.{AreOutcomes, marked, unmarked, again, reserved_marks, known, out_of_range, RoutesOf, LimitsOf, DeclaredOf, misroutes, routes_exhausted, misses, breaks};
+ghost use Rattle.graph.specs.RulesLaws.{AreOutcomes, marked, unmarked, again, reserved_marks, known, out_of_range, bad_row, RoutesOf, LimitsOf, DeclaredOf, misroutes, routes_exhausted, misses};
 
 use crate::search::Rows;
 use crate::{Broken, Ceilings, rule, rule_at};
@@ -61,12 +62,7 @@ fn lowest_with_params(w: &[u32; NUMBERS]) -> Option<u32>
     if is_0_2(w) {
         return None;
     }
-    for node in 0..w[layout::NODE_COUNT] {
-        if w[layout::NODE_HAS_PARAMS + node as usize] == 1 {
-            return Some(node);
-        }
-    }
-    None
+    (0..w[layout::NODE_COUNT]).find(|node| w[layout::NODE_HAS_PARAMS + *node as usize] == 1)
 }
 
 pub fn rule_1_params(w: &[u32; NUMBERS]) -> Result<(), Broken>
@@ -258,7 +254,18 @@ fn is_out_of_range(most: u32, limit: u32) -> bool
     (limit == 0) | (most < limit.saturating_add(1))
 }
 
-// A loop limit is out of range or on an outcome that is not routed, or on exhausted, or exhausted is not routed.
+// A limit is out of range, or its outcome is not marked.
+fn has_bad_limit(outcomes: &[u32], limits: &[u32], m: &[bool; OUTCOMES], most: u32) -> bool
+    requires { AreOutcomes outcomes.now }
+    ensures { result ≡ some (bad_row m.now most) (zip outcomes.now limits.now) }
+{
+    outcomes
+        .iter()
+        .zip(limits)
+        .any(|(outcome, limit)| !m[*outcome as usize] | is_out_of_range(most, *limit))
+}
+
+// A loop limit is bad, or on exhausted, or exhausted is not routed.
 fn misses(w: &[u32; NUMBERS], node: u32, routes: Rows, limits: Rows) -> bool
     requires { RoutesOf w.now node routes × LimitsOf w.now node limits }
     ensures { result ≡ misses (workflow w.now) node }
@@ -268,12 +275,12 @@ fn misses(w: &[u32; NUMBERS], node: u32, routes: Rows, limits: Rows) -> bool
         return true;
     }
     routed[OUTCOME_EXHAUSTED] = false;
-    let most = w[layout::MAX_VISITS_PER_NODE];
-    has_unmarked(limits.numbers(w, layout::LIMIT_OUTCOME), &routed)
-        || limits
-            .numbers(w, layout::LIMIT_LIMIT)
-            .iter()
-            .any(|limit| is_out_of_range(most, *limit))
+    has_bad_limit(
+        limits.numbers(w, layout::LIMIT_OUTCOME),
+        limits.numbers(w, layout::LIMIT_LIMIT),
+        &routed,
+        w[layout::MAX_VISITS_PER_NODE],
+    )
 }
 
 fn breaks_12(w: &[u32; NUMBERS], node: u32, routes: Rows) -> bool
@@ -291,30 +298,17 @@ fn breaks_12(w: &[u32; NUMBERS], node: u32, routes: Rows) -> bool
     limits.is_empty() || misses(w, node, routes, limits)
 }
 
-// The lowest node that breaks rule 8, 9 or 12.
-
-fn breaks(w: &[u32; NUMBERS], rule: u32, node: u32, routes: Rows) -> bool
-    requires { RoutesOf w.now node routes }
-    ensures { result ≡ breaks (workflow w.now) rule node }
-{
-    if rule == 8 {
-        return breaks_8(w, node, routes);
-    }
-    if rule == 9 {
-        return breaks_9(w, node, routes);
-    }
-    breaks_12(w, node, routes)
-}
-
-fn lowest_breaking(w: &[u32; NUMBERS], rule: u32) -> Option<u32>
-    requires { form (workflow w.now) ≡ true }
-    ensures { result ≡ lowest (workflow w.now).node_count (breaks (workflow w.now) rule) }
+// The lowest node that breaks a rule, which is told the node and its routes.
+fn lowest_breaking<F: Fn(u32, Rows) -> bool>(w: &[u32; NUMBERS], breaks: F) -> Option<u32>
+    requires formed { form (workflow w.now) ≡ true }
+    requires callable { (node : ℕ) (routes : Rows) → RoutesOf w.now node routes → F.pre breaks node routes }
+    ensures { (p : ℕ → Bool) → ((node : ℕ) (routes : Rows) (b : Bool) → RoutesOf w.now node routes → F.post breaks node routes b → b ≡ p node) → result ≡ lowest (workflow w.now).node_count p }
 {
     let k = capped(w[layout::ROUTE_COUNT], layout::ROUTES);
     let mut from = 0;
     for node in 0..w[layout::NODE_COUNT] {
         let routes = Rows::starting_at(w, layout::ROUTE_NODE, from, k, node);
-        if breaks(w, rule, node, routes) {
+        if breaks(node, routes) {
             return Some(node);
         }
         from = routes.to;
@@ -326,19 +320,28 @@ pub fn rule_8(w: &[u32; NUMBERS]) -> Result<(), Broken>
     requires { form (workflow w.now) ≡ true }
     ensures { result ≡ rule_at 8 (lowest (workflow w.now).node_count (breaks_8 (workflow w.now))) }
 {
-    rule_at(8, lowest_breaking(w, 8))
+    rule_at(
+        8,
+        lowest_breaking(w, |node, routes| breaks_8(w, node, routes)),
+    )
 }
 
 pub fn rule_9(w: &[u32; NUMBERS]) -> Result<(), Broken>
     requires { form (workflow w.now) ≡ true }
     ensures { result ≡ rule_at 9 (lowest (workflow w.now).node_count (breaks_9 (workflow w.now))) }
 {
-    rule_at(9, lowest_breaking(w, 9))
+    rule_at(
+        9,
+        lowest_breaking(w, |node, routes| breaks_9(w, node, routes)),
+    )
 }
 
 pub fn rule_12(w: &[u32; NUMBERS]) -> Result<(), Broken>
     requires { form (workflow w.now) ≡ true }
     ensures { result ≡ rule_at 12 (lowest (workflow w.now).node_count (breaks_12 (workflow w.now))) }
 {
-    rule_at(12, lowest_breaking(w, 12))
+    rule_at(
+        12,
+        lowest_breaking(w, |node, routes| breaks_12(w, node, routes)),
+    )
 }

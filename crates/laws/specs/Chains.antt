@@ -1,14 +1,13 @@
 -- Chains of iterators in this repository's words.
-use Rattle.std.specs.Prelude.{◌≡◌, refl, Bool, true, false, List, [], ◌∷◌, ℕ, zero, suc, ◌+◌, ◌-◌, ◌≤◌, ◌<◌, length, get_or, Option}
-use Rattle.std.specs.Int.Bits.{bit_or, or_add_and, or_zero_l}
-use Rattle.std.proofs.lemmas.Nat.{and_le_l, and_le_r}
+use Rattle.std.specs.Prelude.{◌≡◌, refl, Bool, true, false, List, [], ◌∷◌, ℕ, zero, suc, ◌+◌, ◌-◌, ◌≤◌, ◌<◌, length, get_or, Option, Some, None}
+use Rattle.std.specs.Int.Bits.{bit_or}
 use Rattle.std.proofs.lemmas.Bool.{eqb-false}
-use Rattle.std.proofs.Common.{ap₂, eqb, eqb-true, drop-cons, ◌++◌, sym, ◌∙◌, ap, arith}
+use Rattle.std.proofs.Common.{eqb, eqb-true, drop-cons, ◌++◌, sym, ◌∙◌, ap, arith}
 use denote.Param.Members.{Mut}
 use denote.Ref.{Bor}
 use Rattle.std.specs.declared.ops.Range.{Range}
-use Rattle.std.specs.Bool.{MatchBool}
-use Rattle.std.specs.Option.{MatchOption}
+use Rattle.std.specs.Bool.{⊤, MatchBool}
+use Rattle.std.specs.Option.{MatchOption, option_map}
 use Rattle.std.specs.Fn.{Called, CalledAt}
 use Rattle.std.specs.Iterator.Adapters.{take_while_source, take_while_done, take_while_callee, take_while_steps}
 use Rattle.std.specs.declared.iter.TakeWhile.{TakeWhile}
@@ -18,12 +17,13 @@ use Rattle.std.proofs.lemmas.List.Folds.{length-prefix_len}
 use Rattle.std.specs.Iterator.{YieldsThen, Drains}
 use Rattle.std.specs.List.{range_with_len, FoldsTo, AllWithin, HoldsAt, list_all, list_any, prefix_len}
 use Rattle.std.proofs.iter.Yields.{nat_range_steps}
-use Rattle.std.proofs.lemmas.Iterator.{YieldsList, YieldsList-from_range, cases_from_all}
+use Rattle.std.proofs.lemmas.Iterator.{YieldsList, YieldsList-from_range, cases_from_all, first_from_Range}
 use Rattle.std.proofs.lemmas.Fn.{fold_over}
 use Rattle.laws.specs.Bool.{when◌then◌else◌, ◌and◌, split, strict_and}
-use Rattle.laws.specs.Rows.{rows, span}
+use Rattle.laws.specs.Rows.{rows, span, span_more, span_none}
 use Rattle.laws.specs.Every.{every}
 use Rattle.laws.specs.First.{first, some}
+use Rattle.laws.specs.Zeros.{or_none}
 use Rattle.std.specs.Prelude.{take, drop, false}
 
 length_range : (a n : ℕ) → length (range_with_len a n) ≡ n
@@ -72,6 +72,46 @@ module _ {F : Type 0} {g : Mut F (ℕ × Unit {0}) Bool} (p : ℕ → Bool) (i k
           let e = get_range i (k - i) a.0 0 l in
           every_false p (k - i) i a.0 l ((rw e at (a.2 0)) (omega arith) (omega arith))
 
+-- The first number that passes, by its place.
+module _ {B : Type 0} (p : ℕ → Bool) (v : ℕ → B) (e : B) (k : ℕ) where
+  first_at : (z m i : ℕ) → k ≡ i + m → i ≤ z → z < k → p z ≡ true → ((n : ℕ) → i ≤ n → n < z → p n ≡ false) → v z ≡ first p (λ _ n. v n) e i (span (λ n. n) i k)
+  unfolding first when◌then◌else◌
+  first_at z zero i h l u t f = absurd (omega arith)
+  first_at z (suc m) i h l u t f =
+      rw (span_more (λ n. n) i k (omega arith))
+      (split (eqb z i)
+      (λ q. let c : z ≡ i = eqb-true z i q in rw (rw c at t, c))
+      (λ q.
+      let d : z ≡ i → ⊥ = eqb-false z i q in
+      rw (f i (omega arith) (omega arith)) (first_at z m (i + 1) (omega arith) (omega arith) u t (λ n a b. f n (omega arith) b))))
+
+  first_none : (m i : ℕ) → k ≡ i + m → ((n : ℕ) → i ≤ n → n < k → p n ≡ false) → e ≡ first p (λ _ n. v n) e i (span (λ n. n) i k)
+  unfolding first when◌then◌else◌
+  first_none zero i h f = rw (span_none (λ n. n) i k (omega arith))
+  first_none (suc m) i h f =
+      rw (span_more (λ n. n) i k (omega arith), f i (omega arith) (omega arith)) (first_none m (i + 1) (omega arith) (λ n a b. f n (omega arith) b))
+
+-- `find` over the numbers from 0 to k, and what v makes of the one that is found.
+module _ {F : Type 0} {g : Mut F (Bor ℕ × Unit {0}) Bool} (p : ℕ → Bool) (k : ℕ) (u : Range ℕ) (f : F) where
+  pub range_find : {B : Type 0} (v : ℕ → B) (r : Option ℕ)
+      → (xs : List ℕ) × (j : F) × YieldsThen nat_range_steps (record { start = 0; end = k }) xs r u × FoldsTo (λ p x q. CalledAt g p x false q) f xs j × MatchOption r ⊤ (λ x. (h : F) × CalledAt g j x true h)
+      → ((x : ℕ) (b : Bool) (q : F) → CalledAt g f x b q → (q ≡ f) × (x < k → b ≡ p x)) → option_map v r ≡ first p (λ _ n. Some (v n)) None 0 (span (λ n. n) 0 k)
+  range_find {B} v r d h =
+      go r (first_from_Range (record { start = 0; end = k }) u f r (λ x. x < k → true ≡ p x) (λ x. x < k → false ≡ p x) d (λ x q c. (h x true q c).1) (λ x q c. h x false q c))
+    where
+      go : (r : Option ℕ) → MatchOption r ((n : ℕ) → 0 ≤ n → n < k → n < k → false ≡ p n) (λ i. (0 ≤ i) × (i < k) × (i < k → true ≡ p i) × ((n : ℕ) → 0 ≤ n → n < i → n < k → false ≡ p n)) → option_map v r ≡ first p (λ _ n. Some (v n)) None 0 (span (λ n. n) 0 k)
+      go (Some i) a = first_at p (λ n. Some (v n)) None k i k 0 (omega arith) (omega arith) a.1 (sym (a.2 a.1)) (λ n l u. let b = a.1 in sym (a.3 n l u (omega arith)))
+      go None a = first_none p (λ n. Some (v n)) None k k 0 (omega arith) (λ n l u. sym (a n l u u))
+
+  pub range_first : (r : Option ℕ)
+      → (xs : List ℕ) × (j : F) × YieldsThen nat_range_steps (record { start = 0; end = k }) xs r u × FoldsTo (λ p x q. CalledAt g p x false q) f xs j × MatchOption r ⊤ (λ x. (h : F) × CalledAt g j x true h)
+      → ((x : ℕ) (b : Bool) (q : F) → CalledAt g f x b q → (q ≡ f) × (x < k → b ≡ p x)) → r ≡ first p (λ _ n. Some n) None 0 (span (λ n. n) 0 k)
+  range_first r d h = same r ∙ range_find (λ n. n) r d h
+    where
+      same : (r : Option ℕ) → r ≡ option_map (λ n. n) r
+      same (Some n) = refl
+      same None = refl
+
 -- Some element passes, and every one does, in std's words.
 some_from : {A : Type 0} (p : A → Bool) (i : ℕ) (xs : List A) → list_any p xs ≡ first p (λ _ _. true) false i xs
 unfolding first when◌then◌else◌
@@ -115,18 +155,6 @@ every_push : (p : ℕ → Bool) (xs : List ℕ) (x : ℕ) → every p (xs ++ (x 
 unfolding every ◌and◌
 every_push p [] x = split (p x) (λ h. rw h) (λ h. rw h)
 every_push p (y ∷ xs) x = split (p y) (λ h. rw h (every_push p xs x)) (λ h. rw h)
-
-or_none : (a b : ℕ) → eqb (bit_or a b) 0 ≡ (eqb a 0 and eqb b 0)
-unfolding ◌and◌
-or_none a b = go (eqb (bit_or a b) 0) (eqb a 0) (eqb b 0) refl refl refl
-  where
-    go : (x y z : Bool) → eqb (bit_or a b) 0 ≡ x → eqb a 0 ≡ y → eqb b 0 ≡ z → x ≡ (y and z)
-    go true true true e p q = refl
-    go true true false e p q = absurd (eqb-false b 0 q (omega (arith, eqb-true (bit_or a b) 0 e, or_add_and a b, and_le_l a b)))
-    go true false z e p q = absurd (eqb-false a 0 p (omega (arith, eqb-true (bit_or a b) 0 e, or_add_and a b, and_le_r a b)))
-    go false true true e p q = absurd (eqb-false (bit_or a b) 0 e (ap₂ bit_or (eqb-true a 0 p) (eqb-true b 0 q) ∙ or_zero_l 0))
-    go false true false e p q = refl
-    go false false z e p q = refl
 
 abbrev pub zeros : List ℕ → Bool
 zeros xs = every (λ x. eqb x 0) xs

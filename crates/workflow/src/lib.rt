@@ -166,7 +166,7 @@ pub fn is_0_2(w: &[u32; NUMBERS]) -> bool
 fn are(a: u32, b: u32, x: u32, y: u32) -> bool
     ensures { result ≡ are a b x y }
 {
-    (a == x) & (b == y)
+    a == x && b == y
 }
 
 // The value in the first row, of the first `count`, whose two keys are x and y.
@@ -182,12 +182,9 @@ fn find_row(
     requires { Columns major minor value count }
     ensures { result ≡ find_row w.now major minor value count x y }
 {
-    for i in 0..count {
-        if are(w[major + i], w[minor + i], x, y) {
-            return Some(w[value + i]);
-        }
-    }
-    None
+    (0..count)
+        .find(|i| are(w[major + *i], w[minor + *i], x, y))
+        .map(|i| w[value + i])
 }
 
 pub fn find_route(w: &[u32; NUMBERS], node: u32, outcome: u32) -> Option<u32>
