@@ -25,7 +25,7 @@ use Rattle.graph.specs.declared.search.Rows.{Rows}
 use Rattle.graph.specs.RowsOf.{rows_of, Within}
 use Rattle.graph.specs.Lowest.{lowest}
 use Rattle.graph.specs.Form.{formed_route, formed_limit, formed_declared, form}
-use Rattle.graph.specs.Rules.{within, breaks_1, of_action, reserved, declared_twice, breaks_7, of_node, unrouted, may_route_exhausted, extra, leads_nowhere, breaks_8, breaks_9, limit_of_node, one_above, bad_limit, breaks_12}
+use Rattle.graph.specs.Rules.{within, breaks_1, of_action, reserved, declared_twice, breaks_7, of_node, unrouted, may_route_exhausted, extra, leads_nowhere, breaks_9, limit_of_node, one_above, bad_limit}
 use Rattle.graph.specs.SearchLaws.{Cut, cuts, the_cut, rows_below, Rising, ascending_rising, first_skip, first_none, form_sorted, parts_of, routes_ascend, limits_ascend, declared_rise}
 
 -- WHAT THE CONTRACTS CITE.

@@ -26,13 +26,14 @@ fn counts_fit(w: &[u32; NUMBERS]) -> bool
     ensures { result ≡ counts_fit (workflow w.now) }
 {
     has_room(w[layout::NODE_COUNT], layout::NODES)
-        & has_room(w[layout::ROUTE_COUNT], layout::ROUTES)
-        & has_room(w[layout::LIMIT_COUNT], layout::LIMITS)
-        & has_room(w[layout::ACTION_COUNT], layout::ACTIONS)
-        & has_room(w[layout::DECLARED_COUNT], layout::DECLARED)
+        && has_room(w[layout::ROUTE_COUNT], layout::ROUTES)
+        && has_room(w[layout::LIMIT_COUNT], layout::LIMITS)
+        && has_room(w[layout::ACTION_COUNT], layout::ACTIONS)
+        && has_room(w[layout::DECLARED_COUNT], layout::DECLARED)
 }
 
 // Rows.
+// Kept: & of tests without effects is as plain as && and leaves no branch in the loops over rows (d).
 
 fn formed_node(x: Node) -> bool
     ensures { result ≡ formed_node x }

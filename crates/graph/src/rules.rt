@@ -76,7 +76,7 @@ pub fn rule_1_params(w: &[u32; NUMBERS]) -> Result<(), Broken>
 fn is_within(most: u32, x: u32) -> bool
     ensures { result ≡ within most x }
 {
-    (0 < x) & (x <= most)
+    (1..=most).contains(&x)
 }
 
 // 3: there are nodes, and no more than there may be.
@@ -98,7 +98,7 @@ pub fn rule_6(w: &[u32; NUMBERS], c: Ceilings) -> Result<(), Broken>
     ensures { result ≡ rule 6 (within c.visits (workflow w.now).max_visits_per_node and within c.activations (workflow w.now).max_activations) }
 {
     let holds = is_within(c.visits, w[layout::MAX_VISITS_PER_NODE])
-        & is_within(c.activations, w[layout::MAX_ACTIVATIONS]);
+        && is_within(c.activations, w[layout::MAX_ACTIVATIONS]);
     rule(6, holds)
 }
 
@@ -259,10 +259,8 @@ fn has_bad_limit(outcomes: &[u32], limits: &[u32], m: &[bool; OUTCOMES], most: u
     requires { AreOutcomes outcomes.now }
     ensures { result ≡ some (bad_row m.now most) (zip outcomes.now limits.now) }
 {
-    outcomes
-        .iter()
-        .zip(limits)
-        .any(|(outcome, limit)| !m[*outcome as usize] | is_out_of_range(most, *limit))
+    outcomes.iter().zip(limits).any(|(outcome, limit)| !m[*outcome as usize]
+        | is_out_of_range(most, *limit))
 }
 
 // A loop limit is bad, or on exhausted, or exhausted is not routed.

@@ -1,6 +1,4 @@
-use Rattle.std.proofs.Common.{rules, arith}
 use borrow.Author.Tests.{eq-eqb, ne_eqb}
-use Rattle.std.proofs.lemmas.Grind.{common_steps}
 use Rattle.workflow.specs.Lookup.{are}
 use Rattle.laws.specs.Bool.{◌and◌}
 use Rattle.workflow.proofs.are.Goals as goal
