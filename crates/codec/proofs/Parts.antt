@@ -51,7 +51,7 @@ module _ {A : Type 0} (p : A → Bool) where
   every_drop (suc k) [] h = refl
   every_drop (suc k) (x ∷ xs) h = every_drop k xs (both _ _ h).1
 
-below_each : (top : ℕ) (xs : List ℕ) → ((n : ℕ) → get_or xs n 0 < top) → all_below top xs ≡ true
+pub below_each : (top : ℕ) (xs : List ℕ) → ((n : ℕ) → get_or xs n 0 < top) → all_below top xs ≡ true
 unfolding every
 below_each top [] h = refl
 below_each top (x ∷ xs) h = join _ _ (lt-ltb x top (h 0)) (below_each top xs (λ n. h (suc n)))
