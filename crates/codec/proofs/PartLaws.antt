@@ -1,14 +1,15 @@
 -- A part of a list: its bytes, its elements, its length, and what is written into it.
-use Rattle.std.specs.Prelude.{◌≡◌, List, ◌++◌, ℕ, ◌+◌, ◌*◌, ◌-◌, ◌≤◌, ◌<◌, length, get_or, take, drop, replicate}
-use Rattle.std.proofs.Common.{sym, ap, ◌∙◌, append_assoc, drop-drop, take-append-drop, length-append}
+use Rattle.std.specs.Prelude.{◌≡◌, Option, List, ◌++◌, ℕ, ◌+◌, ◌*◌, ◌-◌, ◌≤◌, ◌<◌, length, get_or, take, drop, replicate}
+use Rattle.std.proofs.Common.{sym, ap, ◌∙◌, append_assoc, drop-drop, take-append-drop, take-take, length-append}
 use Rattle.std.proofs.lemmas.List.{drop-take, replicate-append-replicate}
 use native.Mathlib.Omega.{arith}
 use Rattle.std.proofs.Math.ListN.{length-take, length-drop, length-replicate}
 use Rattle.std.proofs.Math.Seq.{get_or-take, get_or-drop, take_at, length-take-le}
 use Rattle.laws.specs.Splice.{splice}
 use Rattle.codec.specs.Read.{Read, got}
-use Rattle.codec.specs.Numbers.{bytes_of, part}
-use Rattle.codec.specs.Stored.{Stored, ZeroFrom}
+use Rattle.codec.specs.Numbers.{bytes_of, numbers_at, part}
+use Rattle.codec.specs.Stored.{place_of, Stored, ZeroFrom}
+use Rattle.codec.proofs.NumbersLaws.{numbers_long}
 use Rattle.codec.proofs.ColumnsLaws.{bytes_few}
 
 pub part_few : (xs : List ℕ) (first k : ℕ) → length (bytes_of (part xs first (first + k))) ≤ 10 * k
@@ -92,3 +93,19 @@ unfolding part
 front_stored {r} {l} {ys} k h few s =
     let z : k - 0 ≡ k = omega arith in
     rw z at (part_stored l 0 k (omega arith) h {r = r} {ys = ys} (λ ns p e. rw z (few ns p e)) (rw z s))
+
+-- NUMBERS READ INTO A PART: as many as it has.
+module _ (top : ℕ) (bytes : List ℕ) (at : ℕ) (l : List ℕ) (first end : ℕ) (low : first ≤ end) (high : end ≤ length l) where
+  pub part_place : {z : Option ℕ} → z ≡ place_of (numbers_at top (length (part l first end)) bytes at) → z ≡ place_of (numbers_at top (end - first) bytes at)
+  part_place e = rw (length_part l first end high) at e
+
+  pub part_read : {ys : List ℕ} → Stored (numbers_at top (length (part l first end)) bytes at) (part l first end) 0 ys → Stored (numbers_at top (end - first) bytes at) l first (put_part l first end ys)
+  part_read {ys} s = part_stored l first end low high (λ ns p e. let n = numbers_long top bytes (end - first) at ns p e in omega arith) (rw (length_part l first end high) at s)
+
+-- A PART OF A PART from its beginning.
+pub part_in : (l : List ℕ) (first end k : ℕ) → first + k ≤ end → part (part l first end) 0 k ≡ part l first (first + k)
+unfolding part
+part_in l first end k h =
+    let e : k - 0 ≡ k = omega arith in
+    let f : first + k - first ≡ k = omega arith in
+    rw (e, f) (take-take k (end - first) (drop first l) (omega arith))

@@ -1,5 +1,5 @@
 -- The boundary's functions by their tests.
-use Rattle.std.specs.Prelude.{◌≡◌, Bool, List, [], ℕ, ◌+◌, ◌-◌, ◌≤◌, ◌<◌, length}
+use Rattle.std.specs.Prelude.{◌≡◌, Option, Bool, List, [], ℕ, ◌+◌, ◌-◌, ◌≤◌, ◌<◌, length}
 use Rattle.std.proofs.Math.Path.{refl, ap}
 use Rattle.std.proofs.Common.{sym, ◌∙◌, append-nil, arith, take_all}
 use Rattle.std.proofs.Math.Bool.{true, false}
@@ -11,7 +11,6 @@ use Rattle.laws.specs.Splice.{splice, splice_all}
 use Rattle.workflow.specs.Layout.{numbers as sheet_length}
 use Rattle.host.specs.Layout as layout
 use Rattle.host.specs.Read.{at, record_fits}
-use Rattle.codec.specs.declared.numbers.Place.{Place}
 use Rattle.codec.specs.Read.{Read, got, bad}
 use Rattle.codec.specs.Numbers.{bytes_of, part}
 use Rattle.codec.specs.Stages.{Shape, numbers}
@@ -103,7 +102,7 @@ pub record Whole (size : ℕ) (read : Read (List ℕ)) : Type 0 where
   pub is : read ≡ got ns size
   pub all : ended size read ≡ got ns size
 
-module _ (size : ℕ) {z : Place} where
+module _ (size : ℕ) {z : Option ℕ} where
   pub not_whole : (read : Read (List ℕ)) → z ≡ place_of read → ends_at size z ≡ false → ended size read ≡ bad
   unfolding place_of ends_at ended when◌then◌else◌
   not_whole bad e h = refl

@@ -6,7 +6,7 @@ ghost use Rattle.codec.specs.Numbers.{bytes_of};
 ghost use Rattle.in_bytes.specs.Answer.{answer, answer_head};
 
 use crate::run::{run_size, write_run};
-use codec::numbers::{longs_size, write_longs};
+use codec::numbers::{numbers_size, write_numbers};
 use host::layout;
 
 // A count of rows. No more of them stand in an answer than there is room for, whatever the count says.
@@ -38,10 +38,10 @@ fn head_size(xs: &[u64; layout::ANSWER]) -> usize
     ensures { result ≡ length (bytes_of (answer_head xs.now)) }
 {
     if xs[layout::ANSWER_KIND] == 1 {
-        return longs_size(xs, 0, notes_end(xs))
-            + longs_size(xs, layout::ANSWER_ENDINGS, endings_end(xs));
+        return numbers_size(&xs[..notes_end(xs)])
+            + numbers_size(&xs[layout::ANSWER_ENDINGS..endings_end(xs)]);
     }
-    longs_size(xs, 0, layout::WANT_WIDTH)
+    numbers_size(&xs[..layout::WANT_WIDTH])
 }
 
 fn write_head(out: &mut [u8], xs: &[u64; layout::ANSWER]) -> usize
@@ -50,10 +50,10 @@ fn write_head(out: &mut [u8], xs: &[u64; layout::ANSWER]) -> usize
     ensures out_after { out.new ≡ splice out.old 0 (bytes_of (answer_head xs.now)) }
 {
     if xs[layout::ANSWER_KIND] == 1 {
-        let place = write_longs(out, 0, xs, 0, notes_end(xs));
-        return write_longs(out, place, xs, layout::ANSWER_ENDINGS, endings_end(xs));
+        let place = write_numbers(out, 0, &xs[..notes_end(xs)]);
+        return write_numbers(out, place, &xs[layout::ANSWER_ENDINGS..endings_end(xs)]);
     }
-    write_longs(out, 0, xs, 0, layout::WANT_WIDTH)
+    write_numbers(out, 0, &xs[..layout::WANT_WIDTH])
 }
 
 // How many bytes an answer takes.

@@ -19,7 +19,7 @@ use crate::call::{read_call, read_rest};
 use crate::event::event_fits;
 use crate::run::{read_run, run_size, run_tidy, tidy_fits, write_run};
 use crate::sheet::{read_sheet, sheet_size, sheet_tidy, write_sheet};
-use codec::numbers::{Place, longs_size, read_longs, write_longs};
+use codec::numbers::{numbers_size, read_numbers, write_numbers};
 use host::read::run_fits;
 use host::{kuxhoveza_transition, layout};
 use workflow::layout::NUMBERS;
@@ -64,13 +64,10 @@ fn receipt(number: u32) -> u64
 }
 
 // What was read ends where the bytes end.
-fn ends(place: Place, bytes: &[u8]) -> bool
+fn ends(place: Option<usize>, bytes: &[u8]) -> bool
     ensures { result ≡ ends_at (length bytes.now) place }
 {
-    match place {
-        Place::At(next) => next == bytes.len(),
-        Place::Bad => false,
-    }
+    place == Some(bytes.len())
 }
 
 // A SHEET.
@@ -185,11 +182,11 @@ pub fn kuxhoveza_write_event(event: &[u64], out: &mut [u8]) -> u64
     if !event_fits(event) {
         return receipt(layout::BAD_CALL);
     }
-    let size = longs_size(event, 0, layout::EVENT);
+    let size = numbers_size(event);
     if out.len() < size {
         return refused(SHORT);
     }
-    write_longs(out, 0, event, 0, layout::EVENT);
+    write_numbers(out, 0, event);
     done(size)
 }
 
@@ -201,7 +198,7 @@ pub fn kuxhoveza_read_event(bytes: &[u8], event: &mut [u64]) -> u64
         return receipt(layout::BAD_CALL_LENGTH);
     }
     let mut numbers = [0u64; layout::EVENT];
-    let place = read_longs(bytes, 0, &mut numbers, 0, layout::EVENT);
+    let place = read_numbers(bytes, 0, &mut numbers);
     if !ends(place, bytes) {
         return refused(BAD_BYTES);
     }
@@ -271,8 +268,8 @@ fn decide_on(sheet: &[u32; NUMBERS], bytes: &[u8], answer: &mut [u64; layout::AN
 {
     let mut call = [0u64; layout::CALL];
     let mut run = [0u64; layout::RECORD];
-    let limits = read_longs(bytes, 0, &mut call, 0, layout::CALL_HAS_RECORD);
-    let Place::At(next) = limits else {
+    let limits = read_numbers(bytes, 0, &mut call[..layout::CALL_HAS_RECORD]);
+    let Some(next) = limits else {
         return false;
     };
     let place = read_rest(bytes, next, &mut call, &mut run);

@@ -9,19 +9,21 @@ ghost use Rattle.codec.specs.Stored.{place_of, Stored};
 ghost use Rattle.in_bytes.specs.Run.{run};
 ghost use Rattle.in_bytes.specs.Tests.{unused};
 
-use codec::numbers::{Place, longs_size, longs_zero, read_longs, write_longs};
-use codec::slots::{read_slots, slots_size, slots_tidy, write_slots};
+use codec::numbers::{numbers_size, numbers_zero, read_numbers, write_numbers};
+use codec::slots::{Slot, read_slots, slots_size, slots_tidy, write_slots};
 use host::layout;
 use host::read::{Used, record_fits};
 
-// Before and after the lead of a streak, which is its count; and of a result, which is its output's tag.
-const STREAK_BEFORE: usize = 1;
+// The lead of a streak is its count; that of a result its output's tag.
+const STREAK: Slot = Slot {
+    before: 1,
+    after: 0,
+};
 
-const STREAK_AFTER: usize = 0;
-
-const RESULT_BEFORE: usize = 2;
-
-const RESULT_AFTER: usize = 3;
+const RESULT: Slot = Slot {
+    before: 2,
+    after: 3,
+};
 
 const CAPACITY: u64 = 64;
 
@@ -36,52 +38,35 @@ fn stored_end(stored: u64) -> usize
 }
 
 // From bytes into numbers that are all zero.
-pub fn read_run(bytes: &[u8], start: usize, r: &mut [u64; layout::RECORD]) -> Place
+pub fn read_run(bytes: &[u8], start: usize, r: &mut [u64; layout::RECORD]) -> Option<usize>
     requires { r.old ≡ replicate record_length 0 }
     ensures value { result ≡ place_of (run.read bytes.now start) }
     ensures stored { Stored (run.read bytes.now start) r.old 0 r.new }
 {
-    let head = read_longs(bytes, start, r, 0, layout::RECORD_SIGNALS);
-    let Place::At(first) = head else {
-        return Place::Bad;
-    };
+    let first = read_numbers(bytes, start, &mut r[..layout::RECORD_SIGNALS])?;
     let stored = r[layout::RECORD_STORED];
     if stored > CAPACITY {
-        return Place::Bad;
+        return None;
     }
-    let signals = read_longs(bytes, first, r, layout::RECORD_SIGNALS, stored_end(stored));
-    let Place::At(second) = signals else {
-        return Place::Bad;
-    };
-    let visits = read_longs(
+    let end = stored_end(stored);
+    let second = read_numbers(bytes, first, &mut r[layout::RECORD_SIGNALS..end])?;
+    let third = read_numbers(
         bytes,
         second,
-        r,
-        layout::RECORD_VISITS,
-        layout::RECORD_STREAKS,
-    );
-    let Place::At(third) = visits else {
-        return Place::Bad;
-    };
-    let streaks = read_slots(
+        &mut r[layout::RECORD_VISITS..layout::RECORD_STREAKS],
+    )?;
+    let fourth = read_slots(
         bytes,
         third,
-        r,
-        layout::RECORD_STREAKS,
-        STREAK_BEFORE,
-        STREAK_AFTER,
+        &mut r[layout::RECORD_STREAKS..layout::RECORD_RESULTS],
+        STREAK,
         layout::NODES,
-    );
-    let Place::At(fourth) = streaks else {
-        return Place::Bad;
-    };
+    )?;
     read_slots(
         bytes,
         fourth,
-        r,
-        layout::RECORD_RESULTS,
-        RESULT_BEFORE,
-        RESULT_AFTER,
+        &mut r[layout::RECORD_RESULTS..],
+        RESULT,
         layout::NODES,
     )
 }
@@ -95,21 +80,9 @@ pub fn run_tidy(xs: &[u64], at: usize) -> bool
     if CAPACITY < stored {
         return false;
     }
-    longs_zero(xs, at + stored_end(stored), at + layout::RECORD_VISITS)
-        & slots_tidy(
-            xs,
-            at + layout::RECORD_STREAKS,
-            STREAK_BEFORE,
-            STREAK_AFTER,
-            layout::NODES,
-        )
-        & slots_tidy(
-            xs,
-            at + layout::RECORD_RESULTS,
-            RESULT_BEFORE,
-            RESULT_AFTER,
-            layout::NODES,
-        )
+    numbers_zero(&xs[at + stored_end(stored)..at + layout::RECORD_VISITS])
+        & slots_tidy(&xs[at + layout::RECORD_STREAKS..], STREAK, layout::NODES)
+        & slots_tidy(&xs[at + layout::RECORD_RESULTS..], RESULT, layout::NODES)
 }
 
 // A node has no visits, no streak and no result.
@@ -118,8 +91,8 @@ fn unused(xs: &[u64], n: usize) -> bool
     ensures { result ≡ unused xs.now n }
 {
     (xs[layout::RECORD_VISITS + n] == 0)
-        & (xs[layout::RECORD_STREAKS + layout::STREAK_WIDTH * n + STREAK_BEFORE] == 0)
-        & (xs[layout::RECORD_RESULTS + layout::RESULT_WIDTH * n + RESULT_BEFORE] == 0)
+        & (xs[layout::RECORD_STREAKS + layout::STREAK_WIDTH * n + STREAK.before] == 0)
+        & (xs[layout::RECORD_RESULTS + layout::RESULT_WIDTH * n + RESULT.before] == 0)
 }
 
 // The nodes up to the last that is used.
@@ -157,22 +130,10 @@ pub fn run_size(xs: &[u64], at: usize) -> usize
     requires { (at + record_length ≤ length xs.now) × (length xs.now ≤ 65536) }
     ensures { result ≡ length (bytes_of (run.fields (part xs.now at (at + record_length)))) }
 {
-    longs_size(xs, at, at + stored_end(xs[at + layout::RECORD_STORED]))
-        + longs_size(xs, at + layout::RECORD_VISITS, at + layout::RECORD_STREAKS)
-        + slots_size(
-            xs,
-            at + layout::RECORD_STREAKS,
-            STREAK_BEFORE,
-            STREAK_AFTER,
-            layout::NODES,
-        )
-        + slots_size(
-            xs,
-            at + layout::RECORD_RESULTS,
-            RESULT_BEFORE,
-            RESULT_AFTER,
-            layout::NODES,
-        )
+    numbers_size(&xs[at..at + stored_end(xs[at + layout::RECORD_STORED])])
+        + numbers_size(&xs[at + layout::RECORD_VISITS..at + layout::RECORD_STREAKS])
+        + slots_size(&xs[at + layout::RECORD_STREAKS..], STREAK, layout::NODES)
+        + slots_size(&xs[at + layout::RECORD_RESULTS..], RESULT, layout::NODES)
 }
 
 // Its bytes are written from a place on. The place behind them.
@@ -181,36 +142,25 @@ pub fn write_run(out: &mut [u8], place: usize, xs: &[u64], at: usize) -> usize
     ensures value { result ≡ place + length (bytes_of (run.fields (part xs.now at (at + record_length)))) }
     ensures out_after { out.new ≡ splice out.old place (bytes_of (run.fields (part xs.now at (at + record_length)))) }
 {
-    let first = write_longs(
-        out,
-        place,
-        xs,
-        at,
-        at + stored_end(xs[at + layout::RECORD_STORED]),
-    );
-    let second = write_longs(
+    let end = stored_end(xs[at + layout::RECORD_STORED]);
+    let first = write_numbers(out, place, &xs[at..at + end]);
+    let second = write_numbers(
         out,
         first,
-        xs,
-        at + layout::RECORD_VISITS,
-        at + layout::RECORD_STREAKS,
+        &xs[at + layout::RECORD_VISITS..at + layout::RECORD_STREAKS],
     );
     let third = write_slots(
         out,
         second,
-        xs,
-        at + layout::RECORD_STREAKS,
-        STREAK_BEFORE,
-        STREAK_AFTER,
+        &xs[at + layout::RECORD_STREAKS..],
+        STREAK,
         layout::NODES,
     );
     write_slots(
         out,
         third,
-        xs,
-        at + layout::RECORD_RESULTS,
-        RESULT_BEFORE,
-        RESULT_AFTER,
+        &xs[at + layout::RECORD_RESULTS..],
+        RESULT,
         layout::NODES,
     )
 }

@@ -23,7 +23,7 @@ returns-then-not-ends c =
     let a = c.args in
     let bytes = a.bytes.now in
     let f = sym c.ends.ensures ∙ not-true _ (not_from_false _ c.if-not-ends.true) in
-    let p = event_place bytes c.read_longs-place.ensures.value in
+    let p = event_place bytes c.read_numbers-place.ensures.value in
     let o = event_taken bytes _ c.if-event-ne-EVENT.false ∙ taken_bad _ (not_whole _ (event.read bytes 0) p f) in
     let b = refused_by a.event.now o in
     record { value = c.refused.ensures ∙ b.0; event_after = b.1 }
@@ -34,9 +34,9 @@ returns-then-not-event_fits c =
     let bytes = a.bytes.now in
     let good : Bytes bytes = record { each = λ n. omega (arith, c.type_inv.bytes n) } in
     let f = sym c.ends.ensures ∙ not-false _ (not_from_true _ c.if-not-ends.false) in
-    let p = event_place bytes c.read_longs-place.ensures.value in
+    let p = event_place bytes c.read_numbers-place.ensures.value in
     let w = is_whole _ (event.read bytes 0) p f in
-    let n = all_read event event_exact bytes _ _ w good (sym event_width) (event_stored bytes c.read_longs-place.ensures.stored) in
+    let n = all_read event event_exact bytes _ _ w good (sym event_width) (event_stored bytes c.read_numbers-place.ensures.stored) in
     let u = ap event_fits (sym n) ∙ sym c.event_fits.ensures ∙ not-true _ (not_from_false _ c.if-not-event_fits.true) in
     let o = event_taken bytes _ c.if-event-ne-EVENT.false ∙ taken_unfit _ w.all u in
     let b = refused_by a.event.now o in
@@ -48,9 +48,9 @@ returns c =
     let bytes = a.bytes.now in
     let good : Bytes bytes = record { each = λ n. omega (arith, c.type_inv.bytes n) } in
     let f = sym c.ends.ensures ∙ not-false _ (not_from_true _ c.if-not-ends.false) in
-    let p = event_place bytes c.read_longs-place.ensures.value in
+    let p = event_place bytes c.read_numbers-place.ensures.value in
     let w = is_whole _ (event.read bytes 0) p f in
-    let n = all_read event event_exact bytes _ _ w good (sym event_width) (event_stored bytes c.read_longs-place.ensures.stored) in
+    let n = all_read event event_exact bytes _ _ w good (sym event_width) (event_stored bytes c.read_numbers-place.ensures.stored) in
     let u = ap event_fits (sym n) ∙ sym c.event_fits.ensures ∙ not-false _ (not_from_true _ c.if-not-event_fits.false) in
     let o = event_taken bytes _ c.if-event-ne-EVENT.false ∙ taken_done _ w.all u in
     let b = done_by a.event.now o in
