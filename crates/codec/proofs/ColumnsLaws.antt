@@ -1,5 +1,5 @@
 -- Columns and stages, both ways: what is written is read back, and only what is written is read.
-use Rattle.std.specs.Prelude.{◌≡◌, ℕ, ◌+◌, ◌*◌, ◌-◌, ◌^◌, ◌≤◌, ltb, get_or, take, drop}
+use Rattle.std.specs.Prelude.{◌≡◌, ℕ, ◌+◌, ◌*◌, ◌-◌, ◌^◌, ◌≤◌, ltb, take, drop}
 use Rattle.std.proofs.Math.Path.{refl}
 use Rattle.std.proofs.Common.{◌∙◌, arith, mul-suc, length-append, take-append-drop, length-take-le}
 use Rattle.std.proofs.Math.Bool.{true}

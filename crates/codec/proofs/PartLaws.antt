@@ -49,8 +49,8 @@ put_splice l first end ns h =
     let mid = take (end - first) (drop first l) in
     let front = take first l in
     rw (e, ← drop-drop (length ns) first l) (
-      ap (λ (r : List ℕ). front ++ r) (append_assoc ns (drop (length ns) mid) (drop (end - first) (drop first l)) ∙ ap (λ (r : List ℕ). ns ++ r) (drop_in (length ns) (end - first) (drop first l) h))
-      ∙ sym (append_assoc front ns (drop (length ns) (drop first l)))
+    ap (λ (r : List ℕ). front ++ r) (append_assoc ns (drop (length ns) mid) (drop (end - first) (drop first l)) ∙ ap (λ (r : List ℕ). ns ++ r) (drop_in (length ns) (end - first) (drop first l) h))
+    ∙ sym (append_assoc front ns (drop (length ns) (drop first l)))
     )
 
 module _ (l : List ℕ) (first end : ℕ) (low : first ≤ end) (high : end ≤ length l) where

@@ -9,7 +9,7 @@ use Rattle.laws.specs.Listing.{padded}
 use Rattle.laws.specs.Splice.{splice, splice_none, splice_one, splice_more, length_splice}
 use Rattle.codec.specs.Read.{Read, got, bad, onward}
 use Rattle.codec.specs.Leb.{groups, leb128}
-use Rattle.codec.specs.Numbers.{bytes_of, number_below, numbers_at, part}
+use Rattle.codec.specs.Numbers.{bytes_of, number_below, numbers_at}
 use Rattle.codec.specs.Stages.{all_zero}
 use Rattle.codec.specs.Slots.{slot}
 use Rattle.codec.specs.Stored.{place_of, Stored, ZeroFrom}

@@ -1,5 +1,5 @@
 -- A value of several stages: its numbers stand in a list of a fixed length, and those that are used stand in the bytes. What a stage uses hangs on the numbers of the stages before it.
-use Rattle.std.specs.Prelude.{Bool, List, [], ◌∷◌, ◌++◌, ℕ, ◌+◌, ltb, leb, eqb, length, get_or, take, drop}
+use Rattle.std.specs.Prelude.{Bool, List, [], ◌∷◌, ◌++◌, ℕ, ◌+◌, ltb, leb, eqb, length, take, drop}
 use Rattle.laws.specs.Bool.{when◌then◌else◌, ◌and◌}
 use Rattle.laws.specs.Every.{every}
 use Rattle.laws.specs.Listing.{padded}

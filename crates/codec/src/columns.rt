@@ -23,7 +23,7 @@ pub fn read_columns(bytes: &[u8], start: usize, out: &mut [u32], plan: &[Column]
     let mut at = start;
     let mut first: usize = 0;
     for column in plan {
-        if column.room < column.used {
+        if column.used > column.room {
             return None;
         }
         at = read_numbers(bytes, at, &mut out[first..first + column.used])?;

@@ -101,7 +101,7 @@ pub trait Unsigned: Copy {
         ensures { as_number result ≡ bit_or (as_number self) (as_number other) };
 
     // The number at a place of bytes.
-    fn at(bytes: &[u8], at: usize) -> Option<Number>
+    fn read_at(bytes: &[u8], at: usize) -> Option<Number>
         ensures { result ≡ number_of (number_below top bytes.now at) };
 
     ghost some: { 0 < top };
@@ -132,7 +132,7 @@ impl Unsigned for u32 {
         self | other
     }
 
-    fn at(bytes: &[u8], at: usize) -> Option<Number> {
+    fn read_at(bytes: &[u8], at: usize) -> Option<Number> {
         small_at(bytes, at)
     }
 
@@ -164,7 +164,7 @@ impl Unsigned for u64 {
         self | other
     }
 
-    fn at(bytes: &[u8], at: usize) -> Option<Number> {
+    fn read_at(bytes: &[u8], at: usize) -> Option<Number> {
         number_at(bytes, at)
     }
 
@@ -196,7 +196,7 @@ impl<'a> Reader<'a> {
         ensures value { result ≡ number_of (number_below T.top self.old.bytes.now self.old.at) }
         ensures bytes_unchanged { (self.new.bytes ≡ self.old.bytes) × (self.new.at ≡ behind result self.old.at) }
     {
-        let number = T::at(self.bytes, self.at)?;
+        let number = T::read_at(self.bytes, self.at)?;
         self.at = number.next;
         Some(number)
     }

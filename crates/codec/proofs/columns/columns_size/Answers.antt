@@ -3,7 +3,6 @@ use native.Mathlib.Omega.{arith}
 use Prim.Native.Nat.{◌+◌, ◌^◌}
 use Rattle.codec.specs.Numbers.{part}
 use Rattle.codec.specs.Stages.{total}
-use Rattle.codec.proofs.Parts.{part_long}
 use Rattle.codec.proofs.ColumnsLoops.{tidy_start, tidy_room, tidy_low, count_start, count_few, count_more, count_end}
 use Rattle.codec.proofs.columns.columns_size.Goals as goal
 

@@ -3,7 +3,7 @@ use native.Mathlib.Omega.{arith}
 use Prim.Native.Nat.{◌+◌, ◌^◌}
 use Rattle.codec.specs.Numbers.{part}
 use Rattle.codec.specs.Stages.{total}
-use Rattle.codec.proofs.ColumnsLoops.{tidy_start, tidy_room, tidy_low, write_start, write_long, write_room, write_more, write_place, write_end}
+use Rattle.codec.proofs.ColumnsLoops.{tidy_start, tidy_room, tidy_low, write_start, write_room, write_more, write_place, write_end}
 use Rattle.codec.proofs.columns.write_columns.Goals as goal
 
 pub loop-column-init : goal.loop-column-init

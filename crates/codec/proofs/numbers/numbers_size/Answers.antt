@@ -2,7 +2,6 @@ use mathlib.Core.Path.{ap, sym, ◌∙◌}
 use Prim.Native.Nat.{ℕ}
 use native.Mathlib.Omega.{arith}
 use lib.ListN.{length}
-use Rattle.codec.specs.Numbers.{bytes_of}
 use Rattle.codec.specs.Leb.{leb128}
 use Rattle.codec.proofs.NumbersLoops.{part_all, sizing_start, sizing_more, sizing_end}
 use Rattle.codec.proofs.numbers.numbers_size.Goals as goal

@@ -3,7 +3,7 @@ use Prim.Native.Nat.{ℕ}
 use native.Mathlib.Omega.{arith}
 use lib.ListN.{length}
 use Rattle.codec.specs.Leb.{leb128}
-use Rattle.codec.proofs.NumbersLoops.{part_all, appending_start, appending_long, appending_room, appending_more, appending_place, appending_end}
+use Rattle.codec.proofs.NumbersLoops.{part_all, appending_start, appending_room, appending_more, appending_place, appending_end}
 use Rattle.codec.proofs.numbers.write_numbers.Goals as goal
 
 pub loop-x-init : goal.loop-x-init

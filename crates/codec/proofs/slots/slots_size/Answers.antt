@@ -1,7 +1,6 @@
 use mathlib.Core.Path.{◌≡◌}
 use Prim.Native.Nat.{suc, ◌+◌, ◌*◌, ◌^◌}
 use native.Mathlib.Omega.{arith}
-use Rattle.std.proofs.Common.{length-take, length-drop}
 use Rattle.codec.specs.Numbers.{part}
 use Rattle.codec.proofs.Parts.{part_long}
 use Rattle.codec.proofs.SlotsLoops.{room_here, count_start, count_few, count_more, count_end}

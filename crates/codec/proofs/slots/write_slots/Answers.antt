@@ -3,7 +3,7 @@ use Prim.Native.Nat.{suc, ◌+◌, ◌*◌, ◌^◌}
 use native.Mathlib.Omega.{arith}
 use Rattle.codec.specs.Numbers.{part}
 use Rattle.codec.proofs.Parts.{part_long}
-use Rattle.codec.proofs.SlotsLoops.{room_here, write_start, write_long, write_room, write_more, write_place, write_end}
+use Rattle.codec.proofs.SlotsLoops.{room_here, write_start, write_room, write_more, write_place, write_end}
 use Rattle.codec.proofs.slots.write_slots.Goals as goal
 
 pub loop-n-init : goal.loop-n-init

@@ -1,8 +1,8 @@
 use mathlib.Core.Path.{◌≡◌, refl, ◌∙◌}
-use Prim.Native.Nat.{ℕ, ◌+◌, ◌-◌, ◌^◌}
+use Prim.Native.Nat.{ℕ, ◌+◌, ◌^◌}
 use native.Mathlib.Omega.{arith}
 use mathlib.Core.List.{List, ◌++◌}
-use lib.ListN.{length, length-set, take, drop, set}
+use lib.ListN.{length, length-set, drop, set}
 use Rattle.std.proofs.Math.Seq.{length-take-le}
 use Rattle.codec.specs.Numbers.{numbers_at, part}
 use Rattle.codec.specs.Stored.{place_of, Stored}
