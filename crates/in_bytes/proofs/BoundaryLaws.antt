@@ -33,6 +33,11 @@ module _ {o : Outcome} (array : List ℕ) where
   unfolding returned left
   done_by e = (rw e, rw e)
 
+  -- a whole array is filled
+  pub done_all : {size : ℕ} {contents : List ℕ} → o ≡ done size contents → length contents ≡ length array → (packed layout.written size ≡ returned o) × (contents ≡ left o array)
+  unfolding returned left
+  done_all {size} {contents} e long = (rw e, rw e (sym (splice_all array contents long)))
+
 -- A list is all of its parts.
 pub part_all : (xs : List ℕ) {k : ℕ} → length xs ≡ k → part xs 0 (0 + k) ≡ xs
 unfolding part

@@ -5,7 +5,7 @@ use Rattle.std.proofs.Common.{◌∙◌, length-append, take-append-drop}
 use mathlib.Core.List.{List, [], ◌∷◌, ◌++◌, append_assoc}
 use Prim.Native.Nat.{ℕ, suc, ◌+◌, ◌*◌, ◌-◌, ◌^◌, ◌≤◌, ◌<◌, min}
 use native.Mathlib.Omega.{arith}
-use Rattle.std.proofs.Math.ListN.{length, get_or}
+use Rattle.std.proofs.Math.ListN.{length, get_or, take}
 use Rattle.std.proofs.lemmas.List.{length-replicate}
 use Rattle.std.proofs.Math.Seq.{take_all}
 use borrow.Author.Tests.{eq-eqb, leb-true, leb-false}
@@ -20,6 +20,7 @@ use Rattle.codec.specs.Exact.{Bytes, Exact}
 use Rattle.codec.proofs.ExactLaws.{bytes_append}
 use Rattle.codec.proofs.Loops.{BytesFirst}
 use Rattle.codec.proofs.NumbersLaws.{numbers_exact, numbers_long}
+use Rattle.codec.proofs.NumbersLoops.{part_all}
 use Rattle.codec.proofs.Parts.{part_long, part_front, part_back, part_below}
 use Rattle.codec.proofs.PartLaws.{get_d_part, length_part, put_part, part_stored, part_in}
 use Rattle.codec.proofs.SlotsLaws.{slots_width, slots_exact}
@@ -169,20 +170,20 @@ module _ (xs : List ℕ) (at : ℕ) (room : at + layout.record_length ≤ length
 
   -- what a slice from the streaks or the results on has of them
   abbrev streaks_held : List ℕ
-  streaks_held = part (part xs (at + layout.record_streaks) (length xs)) 0 (layout.streak_width * layout.nodes)
+  streaks_held = part (part xs (at + layout.record_streaks) (at + layout.record_length)) 0 (layout.streak_width * layout.nodes)
 
   abbrev results_held : List ℕ
-  results_held = part (part xs (at + layout.record_results) (length xs)) 0 (layout.result_width * layout.nodes)
+  results_held = part (part xs (at + layout.record_results) (at + layout.record_length)) 0 (layout.result_width * layout.nodes)
 
   streaks_in : streaks_held ≡ streaks
   streaks_in =
       let k : at + layout.record_streaks + layout.streak_width * layout.nodes ≡ at + layout.record_results = omega arith in
-      rw k at (part_in xs (at + layout.record_streaks) (length xs) (layout.streak_width * layout.nodes) (omega arith))
+      rw k at (part_in xs (at + layout.record_streaks) (at + layout.record_length) (layout.streak_width * layout.nodes) (omega arith))
 
   results_in : results_held ≡ results
   results_in =
       let l : at + layout.record_results + layout.result_width * layout.nodes ≡ at + layout.record_length = omega arith in
-      rw l at (part_in xs (at + layout.record_results) (length xs) (layout.result_width * layout.nodes) (omega arith))
+      rw l at (part_in xs (at + layout.record_results) (at + layout.record_length) (layout.result_width * layout.nodes) (omega arith))
 
   head_count : get_or head layout.record_stored 0 ≡ stored
   head_count = get_d_part xs at (at + layout.record_signals) layout.record_stored 0 (omega arith)
@@ -313,3 +314,35 @@ module _ (xs : List ℕ) (at : ℕ) (room : at + layout.record_length ≤ length
 
   pub run_few : length (bytes_of (run.fields (part xs at (at + layout.record_length)))) ≤ 10 * layout.record_length
   run_few = rw run_width at (exact_few run run_exact (part xs at (at + layout.record_length)) (part_long xs at layout.record_length room ∙ sym run_width))
+
+-- A RECORD'S NUMBERS, all of a list.
+module _ (xs : List ℕ) (long : length xs ≡ layout.record_length) where
+  pub room : 0 + layout.record_length ≤ length xs
+  room = omega arith
+
+  all_of : part xs 0 layout.record_length ≡ xs
+  all_of = part_all xs layout.record_length long
+
+  abbrev count_of : ℕ
+  count_of = get_or xs layout.record_stored 0
+
+  pub crowded : ((n : ℕ) → get_or xs n 0 < 2 ^ 64) → layout.store < count_of → false ≡ run.tidy xs
+  crowded small over = rw all_of at (run_crowded xs 0 room small over)
+
+  module _ {end : ℕ} (ends : end ≡ layout.record_signals + layout.signal_width * min count_of layout.store) where
+    pub neat_parts : {a b c : Bool} → ((n : ℕ) → get_or xs n 0 < 2 ^ 64) → count_of ≤ layout.store → a ≡ all_zero (part xs end layout.record_visits) → b ≡ (slots (2 ^ 64) 1 0 layout.nodes).tidy (streaks_held xs 0 room) → c ≡ (slots (2 ^ 64) 2 3 layout.nodes).tidy (results_held xs 0 room) → ((a && b) && c) ≡ run.tidy xs
+    neat_parts {a} {b} {c} small low f g h =
+        let z : 0 + end ≡ end = omega arith in
+        rw all_of at (run_neat xs 0 room {end = end} {a = a} {b = b} {c = c} small low ends (rw z f) g h)
+
+    pub first_bytes : BytesFirst (bytes_of (run.fields xs)) (bytes_of (take end xs)) (visits_left xs 0 room)
+    unfolding part
+    first_bytes =
+        let z : 0 + end - 0 ≡ end = omega arith in
+        rw (all_of, z) at (run_first xs 0 room ends)
+
+    pub sizes : length (bytes_of (take end xs)) + length (visits_bytes xs 0 room) + length (streaks_bytes xs 0 room) + length (results_bytes xs 0 room) ≡ length (bytes_of (run.fields xs))
+    sizes = rw (first_bytes.is, length-append, length-append, length-append, length-append) (omega arith)
+
+  pub few : length (bytes_of (run.fields xs)) ≤ 10 * layout.record_length
+  few = rw all_of at (run_few xs 0 room)

@@ -184,15 +184,15 @@ module _ (w : List ℕ) (long : length w ≡ layout.numbers) where
 
     -- what a slice from the columns on has of them
     abbrev sliced : List ℕ
-    sliced = part (part w layout.node_kind (length w)) 0 (total counts)
+    sliced = part (part w layout.node_kind layout.numbers) 0 (total counts)
 
     sliced_held : sliced ≡ columns_held
-    sliced_held = let a = all_rooms in rw (are, plan_total w) (part_in w layout.node_kind (length w) rooms (omega arith))
+    sliced_held = let a = all_rooms in rw (are, plan_total w) (part_in w layout.node_kind layout.numbers rooms (omega arith))
 
-    pub sliced_room : total counts ≤ length (part w layout.node_kind (length w))
+    pub sliced_room : total counts ≤ length (part w layout.node_kind layout.numbers)
     sliced_room =
         let a = all_rooms in
-        let n = length_part w layout.node_kind (length w) (omega arith) in
+        let n = length_part w layout.node_kind layout.numbers (omega arith) in
         rw (are, plan_total w) (omega arith)
 
     rest_tidy : neat w (rest_by seen) (0 + head.width) ≡ by_them.tidy columns_held

@@ -1,8 +1,8 @@
 // An answer as bytes: a next record with its order, notes and endings, or a want; the run stands last.
 ghost use Rattle.std.specs.Prelude.{◌≡◌, ◌≤◌, min, length, get_or, ◌+◌, ◌*◌};
 ghost use Rattle.laws.specs.Splice.{splice};
-ghost use Rattle.host.specs.Layout.{answer_kind, answer_notes, answer_noted, answer_endings, answer_ended, note_width, ending_width, notes, endings};
-ghost use Rattle.codec.specs.Numbers.{bytes_of};
+ghost use Rattle.host.specs.Layout.{answer_kind, answer_notes, answer_noted, answer_endings, answer_ended, answer_record, answer_length, note_width, ending_width, notes, endings};
+ghost use Rattle.codec.specs.Numbers.{bytes_of, part};
 ghost use Rattle.in_bytes.specs.Answer.{answer, answer_head};
 
 use crate::run::{run_size, write_run};
@@ -13,10 +13,7 @@ use host::layout;
 fn rows(count: u64, capacity: usize) -> usize
     ensures { result ≡ min count capacity }
 {
-    if count < (capacity as u64) {
-        return count as usize;
-    }
-    capacity
+    count.min(capacity as u64) as usize
 }
 
 // Where the notes end, and the endings.
@@ -56,11 +53,18 @@ fn write_head(out: &mut [u8], xs: &[u64; layout::ANSWER]) -> usize
     write_numbers(out, 0, &xs[..layout::WANT_WIDTH])
 }
 
+// The run, which stands last.
+fn run(xs: &[u64; layout::ANSWER]) -> &[u64; layout::RECORD]
+    ensures { result.now ≡ part xs.now answer_record answer_length }
+{
+    <&[u64; layout::RECORD]>::try_from(&xs[layout::ANSWER_RECORD..]).unwrap()
+}
+
 // How many bytes an answer takes.
 pub fn answer_size(xs: &[u64; layout::ANSWER]) -> usize
     ensures { result ≡ length (bytes_of ((answer (get_or xs.now answer_kind 0)).fields xs.now)) }
 {
-    head_size(xs) + run_size(xs, layout::ANSWER_RECORD)
+    head_size(xs) + run_size(run(xs))
 }
 
 // Its bytes are written to the buffer's beginning.
@@ -69,5 +73,5 @@ pub fn write_answer(out: &mut [u8], xs: &[u64; layout::ANSWER])
     ensures { out.new ≡ splice out.old 0 (bytes_of ((answer (get_or xs.now answer_kind 0)).fields xs.now)) }
 {
     let place = write_head(out, xs);
-    write_run(out, place, xs, layout::ANSWER_RECORD);
+    write_run(out, place, run(xs));
 }

@@ -12,7 +12,7 @@ ghost use Rattle.std.specs.Prelude.{◌≡◌, ◌≤◌, length};
 ghost use Rattle.laws.specs.Splice.{splice};
 ghost use Rattle.workflow.specs.Layout.{numbers as sheet_length};
 ghost use Rattle.in_bytes.specs.Boundary.{no_item, packed, returned, left, write_sheet, write_run, write_event, read_sheet, read_run, read_event, said, told, decide, decide_on, is_said, said_in, Of64Bits, call_bytes, call_bytes_on};
-ghost use Rattle.in_bytes.specs.Tests.{ends_at};
+ghost use Rattle.in_bytes.specs.Tests.{ends_at, refusal_number};
 
 use crate::answer::{answer_size, write_answer};
 use crate::call::{read_call, read_rest};
@@ -24,14 +24,14 @@ use host::read::run_fits;
 use host::{kuxhoveza_transition, layout};
 use workflow::layout::NUMBERS;
 
-// Refusals of this crate. Their item is 255.
-const BAD_FORM: u64 = 20;
-
-const BAD_RUN: u64 = 25;
-
-const BAD_BYTES: u64 = 31;
-
-const SHORT: u64 = 32;
+// Refusals of this crate, by document 01's numbers. Their item is 255.
+#[derive(Clone, Copy)]
+enum Refusal {
+    BadForm = 20,
+    BadRun = 25,
+    BadBytes = 31,
+    Short = 32,
+}
 
 const NO_ITEM: u64 = 255;
 
@@ -44,10 +44,10 @@ fn packed(number: u64, rest: u64) -> u64
     number % HALF + HALF * (rest % HALF)
 }
 
-fn refused(number: u64) -> u64
-    ensures { result ≡ packed number no_item }
+fn refused(refusal: Refusal) -> u64
+    ensures { result ≡ packed (refusal_number refusal) no_item }
 {
-    packed(number, NO_ITEM)
+    packed(refusal as u64, NO_ITEM)
 }
 
 fn done(size: usize) -> u64
@@ -60,7 +60,7 @@ fn done(size: usize) -> u64
 fn receipt(number: u32) -> u64
     ensures { result ≡ packed number 0 }
 {
-    packed(number as u64, 0)
+    packed(u64::from(number), 0)
 }
 
 // What was read ends where the bytes end.
@@ -76,29 +76,18 @@ pub fn kuxhoveza_write_sheet(sheet: &[u32], out: &mut [u8]) -> u64
     ensures value { result ≡ returned (write_sheet sheet.now (length out.old)) }
     ensures out_after { out.new ≡ left (write_sheet sheet.now (length out.old)) out.old }
 {
-    if sheet.len() != NUMBERS {
+    let Ok(sheet) = <&[u32; NUMBERS]>::try_from(sheet) else {
         return receipt(layout::BAD_SHEET_LENGTH);
-    }
+    };
     if !sheet_tidy(sheet) {
-        return refused(BAD_FORM);
+        return refused(Refusal::BadForm);
     }
     let size = sheet_size(sheet);
     if out.len() < size {
-        return refused(SHORT);
+        return refused(Refusal::Short);
     }
     write_sheet(out, sheet);
     done(size)
-}
-
-fn copy_numbers(out: &mut [u32], xs: &[u32])
-    requires { length xs.now ≤ length out.old }
-    ensures { out.new ≡ splice out.old 0 xs.now }
-{
-    let mut i: usize = 0;
-    while i < xs.len() {
-        out[i] = xs[i];
-        i += 1;
-    }
 }
 
 pub fn kuxhoveza_read_sheet(bytes: &[u8], sheet: &mut [u32]) -> u64
@@ -111,9 +100,9 @@ pub fn kuxhoveza_read_sheet(bytes: &[u8], sheet: &mut [u32]) -> u64
     let mut numbers = [0u32; NUMBERS];
     let place = read_sheet(bytes, 0, &mut numbers);
     if !ends(place, bytes) {
-        return refused(BAD_BYTES);
+        return refused(Refusal::BadBytes);
     }
-    copy_numbers(sheet, &numbers);
+    sheet.copy_from_slice(&numbers);
     done(0)
 }
 
@@ -123,32 +112,21 @@ pub fn kuxhoveza_write_run(run: &[u64], out: &mut [u8]) -> u64
     ensures value { result ≡ returned (write_run run.now (length out.old)) }
     ensures out_after { out.new ≡ left (write_run run.now (length out.old)) out.old }
 {
-    if run.len() != layout::RECORD {
+    let Ok(run) = <&[u64; layout::RECORD]>::try_from(run) else {
         return receipt(layout::BAD_RECORD_LENGTH);
-    }
+    };
     if !run_fits(run) {
         return receipt(layout::BAD_RECORD);
     }
-    if !run_tidy(run, 0) {
-        return refused(BAD_RUN);
+    if !run_tidy(run) {
+        return refused(Refusal::BadRun);
     }
-    let size = run_size(run, 0);
+    let size = run_size(run);
     if out.len() < size {
-        return refused(SHORT);
+        return refused(Refusal::Short);
     }
-    write_run(out, 0, run, 0);
+    write_run(out, 0, run);
     done(size)
-}
-
-fn copy_longs(out: &mut [u64], xs: &[u64])
-    requires { length xs.now ≤ length out.old }
-    ensures { out.new ≡ splice out.old 0 xs.now }
-{
-    let mut i: usize = 0;
-    while i < xs.len() {
-        out[i] = xs[i];
-        i += 1;
-    }
 }
 
 pub fn kuxhoveza_read_run(bytes: &[u8], run: &mut [u64]) -> u64
@@ -161,12 +139,12 @@ pub fn kuxhoveza_read_run(bytes: &[u8], run: &mut [u64]) -> u64
     let mut numbers = [0u64; layout::RECORD];
     let place = read_run(bytes, 0, &mut numbers);
     if !ends(place, bytes) {
-        return refused(BAD_BYTES);
+        return refused(Refusal::BadBytes);
     }
     if !tidy_fits(&numbers) {
-        return refused(BAD_BYTES);
+        return refused(Refusal::BadBytes);
     }
-    copy_longs(run, &numbers);
+    run.copy_from_slice(&numbers);
     done(0)
 }
 
@@ -176,15 +154,15 @@ pub fn kuxhoveza_write_event(event: &[u64], out: &mut [u8]) -> u64
     ensures value { result ≡ returned (write_event event.now (length out.old)) }
     ensures out_after { out.new ≡ left (write_event event.now (length out.old)) out.old }
 {
-    if event.len() != layout::EVENT {
+    let Ok(event) = <&[u64; layout::EVENT]>::try_from(event) else {
         return receipt(layout::BAD_CALL_LENGTH);
-    }
+    };
     if !event_fits(event) {
         return receipt(layout::BAD_CALL);
     }
     let size = numbers_size(event);
     if out.len() < size {
-        return refused(SHORT);
+        return refused(Refusal::Short);
     }
     write_numbers(out, 0, event);
     done(size)
@@ -200,12 +178,12 @@ pub fn kuxhoveza_read_event(bytes: &[u8], event: &mut [u64]) -> u64
     let mut numbers = [0u64; layout::EVENT];
     let place = read_numbers(bytes, 0, &mut numbers);
     if !ends(place, bytes) {
-        return refused(BAD_BYTES);
+        return refused(Refusal::BadBytes);
     }
     if !event_fits(&numbers) {
-        return refused(BAD_BYTES);
+        return refused(Refusal::BadBytes);
     }
-    copy_longs(event, &numbers);
+    event.copy_from_slice(&numbers);
     done(0)
 }
 
@@ -221,11 +199,10 @@ pub fn decide(bytes: &[u8], answer: &mut [u64; layout::ANSWER]) -> bool
     let mut call = [0u64; layout::CALL];
     let mut run = [0u64; layout::RECORD];
     let place = read_call(bytes, &mut sheet, &mut call, &mut run);
-    if ends(place, bytes) {
-        let receipt = kuxhoveza_transition(&sheet, NUMBERS, &call, &run, answer);
-        return receipt == layout::WRITTEN;
+    if !ends(place, bytes) {
+        return false;
     }
-    false
+    kuxhoveza_transition(&sheet, NUMBERS, &call, &run, answer) == layout::WRITTEN
 }
 
 // What is told of an answer's numbers.
@@ -241,7 +218,7 @@ fn answered(answer: &[u64; layout::ANSWER], out: &mut [u8]) -> u64
     }
     let size = answer_size(answer);
     if out.len() < size {
-        return refused(SHORT);
+        return refused(Refusal::Short);
     }
     write_answer(out, answer);
     done(size)
@@ -256,7 +233,7 @@ pub fn kuxhoveza_call(bytes: &[u8], out: &mut [u8]) -> u64
     if decide(bytes, &mut answer) {
         return answered(&answer, out);
     }
-    refused(BAD_BYTES)
+    refused(Refusal::BadBytes)
 }
 
 // The same on a sheet in numbers: the bytes are those of a call without its sheet.
@@ -273,11 +250,10 @@ fn decide_on(sheet: &[u32; NUMBERS], bytes: &[u8], answer: &mut [u64; layout::AN
         return false;
     };
     let place = read_rest(bytes, next, &mut call, &mut run);
-    if ends(place, bytes) {
-        let receipt = kuxhoveza_transition(sheet, NUMBERS, &call, &run, answer);
-        return receipt == layout::WRITTEN;
+    if !ends(place, bytes) {
+        return false;
     }
-    false
+    kuxhoveza_transition(sheet, NUMBERS, &call, &run, answer) == layout::WRITTEN
 }
 
 pub fn kuxhoveza_call_on(
@@ -297,5 +273,5 @@ pub fn kuxhoveza_call_on(
     if decide_on(sheet, bytes, &mut answer) {
         return answered(&answer, out);
     }
-    refused(BAD_BYTES)
+    refused(Refusal::BadBytes)
 }

@@ -16,8 +16,7 @@ const HEAD: usize = layout::NODE_KIND;
 const COLUMNS: usize = 17;
 
 // The columns, of which the counts say how many slots are used.
-fn plan(w: &[u32]) -> [Column; COLUMNS]
-    requires { length w.now ≡ sheet_length }
+fn plan(w: &[u32; layout::NUMBERS]) -> [Column; COLUMNS]
     ensures { result ≡ plan w.now }
 {
     let node = Column {
@@ -58,24 +57,23 @@ pub fn read_sheet(bytes: &[u8], start: usize, w: &mut [u32; layout::NUMBERS]) ->
 }
 
 // Every count is within its capacity, and every slot that isn't used is zero.
-pub fn sheet_tidy(w: &[u32]) -> bool
-    requires { length w.now ≡ sheet_length }
+pub fn sheet_tidy(w: &[u32; layout::NUMBERS]) -> bool
     ensures { result ≡ sheet.tidy w.now }
 {
     columns_tidy(&w[HEAD..], &plan(w))
 }
 
 // How many bytes a tidy sheet takes.
-pub fn sheet_size(w: &[u32]) -> usize
-    requires { (length w.now ≡ sheet_length) × (sheet.tidy w.now ≡ true) }
+pub fn sheet_size(w: &[u32; layout::NUMBERS]) -> usize
+    requires { sheet.tidy w.now ≡ true }
     ensures { result ≡ length (bytes_of (sheet.fields w.now)) }
 {
     numbers_size(&w[..HEAD]) + columns_size(&w[HEAD..], &plan(w))
 }
 
 // Its bytes are written to the buffer's beginning.
-pub fn write_sheet(out: &mut [u8], w: &[u32])
-    requires { (length w.now ≡ sheet_length) × (sheet.tidy w.now ≡ true) × (length (bytes_of (sheet.fields w.now)) ≤ length out.old) }
+pub fn write_sheet(out: &mut [u8], w: &[u32; layout::NUMBERS])
+    requires { (sheet.tidy w.now ≡ true) × (length (bytes_of (sheet.fields w.now)) ≤ length out.old) }
     ensures { out.new ≡ splice out.old 0 (bytes_of (sheet.fields w.now)) }
 {
     let next = write_numbers(out, 0, &w[..HEAD]);

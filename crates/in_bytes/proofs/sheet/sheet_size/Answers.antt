@@ -9,16 +9,16 @@ pub columns_size-requires : goal.columns_size-requires
 unfolding part
 columns_size-requires c =
     let w = c.args.w.now in
-    let l = c.requires.0 in
-    record { in_bounds = (sliced_room w l c.plan.ensures, omega (arith, l, length_part w 9 (length w) (omega arith))); tidy = columns_tidy w l c.plan.ensures c.requires.1 }
+    let l = c.told-w in
+    record { in_bounds = (sliced_room w l c.plan.ensures, omega (arith, l, length_part w 9 4169 (omega arith))); tidy = columns_tidy w l c.plan.ensures c.requires }
 
 pub overflow_add-result : goal.overflow_add-result
 unfolding part
 overflow_add-result c =
     let w = c.args.w.now in
-    let l = c.requires.0 in
+    let l = c.told-w in
     omega (arith, sheet_size w l c.plan.ensures, sheet_few w l, c.columns_size.ensures, c.numbers_size.ensures)
 
 pub returns : goal.returns
 unfolding part
-returns c = rw (c.columns_size.ensures, c.numbers_size.ensures) (sheet_size c.args.w.now c.requires.0 c.plan.ensures)
+returns c = rw (c.columns_size.ensures, c.numbers_size.ensures) (sheet_size c.args.w.now c.told-w c.plan.ensures)

@@ -6,7 +6,7 @@ use Rattle.in_bytes.proofs.sheet.write_sheet.Goals as goal
 
 pub write_numbers-next-requires : goal.write_numbers-next-requires
 unfolding part
-write_numbers-next-requires c = head_fits c.args.w.now c.requires.0 refl c.args.out.now c.requires.2
+write_numbers-next-requires c = head_fits c.args.w.now c.told-w refl c.args.out.now c.requires.1
 
 pub write_columns-requires : goal.write_columns-requires
 unfolding part
@@ -14,11 +14,11 @@ write_columns-requires c =
     let w = c.args.w.now in
     let u = c.plan.ensures in
     let e = c.write_numbers-next.ensures in
-    let l = c.requires.0 in
-    record { in_bounds = sliced_room w l u; tidy = columns_tidy w l u c.requires.1; fits = columns_fit w l u c.args.out.now c.requires.2 e.value e.out_after }
+    let l = c.told-w in
+    record { in_bounds = sliced_room w l u; tidy = columns_tidy w l u c.requires.0; fits = columns_fit w l u c.args.out.now c.requires.1 e.value e.out_after }
 
 pub returns : goal.returns
 unfolding part
 returns c =
     let e = c.write_numbers-next.ensures in
-    both_written c.args.w.now c.requires.0 c.plan.ensures c.args.out.now c.requires.2 e.value e.out_after c.write_columns.ensures.out_after
+    both_written c.args.w.now c.told-w c.plan.ensures c.args.out.now c.requires.1 e.value e.out_after c.write_columns.ensures.out_after
