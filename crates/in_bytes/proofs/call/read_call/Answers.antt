@@ -1,4 +1,4 @@
-use mathlib.Core.Path.{◌≡◌, refl, ◌∙◌}
+use mathlib.Core.Path.{refl, ◌∙◌}
 use Prim.Native.Nat.{◌≤◌, ◌^◌}
 use lib.ListN.{length}
 use native.Mathlib.Omega.{arith}

@@ -6,7 +6,7 @@ use Rattle.codec.proofs.PartLaws.{put_part, put_long}
 use Rattle.codec.proofs.StoredLaws.{bad_place, bad_stored}
 use Rattle.in_bytes.specs.Run.{run}
 use Rattle.in_bytes.proofs.StagesLoops.{ReadingStages, stages_long, stage_room, stage_ready, stage_stored, stage_refused, stage_more, last_stage}
-use Rattle.in_bytes.proofs.RunLaws.{from_signals, from_visits, from_streaks, from_results, head_exact, visits_exact, streaks_exact, results_exact, run_start, numbers_bad, numbers_more, signals_over, signals_within, signals_bad, signals_more}
+use Rattle.in_bytes.proofs.RunLaws.{from_signals, from_visits, head_exact, visits_exact, streaks_exact, results_exact, run_start, numbers_bad, numbers_more, signals_over, signals_within, signals_bad, signals_more}
 use Rattle.in_bytes.proofs.run.read_run.Goals as goal
 use Rattle.in_bytes.proofs.run.read_run.Goals.{In_ok-first, In_ok-second}
 

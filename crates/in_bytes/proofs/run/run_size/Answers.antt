@@ -1,5 +1,4 @@
 use native.Mathlib.Omega.{arith}
-use Rattle.std.proofs.Common.{rules}
 use Rattle.codec.specs.Numbers.{part}
 use Rattle.in_bytes.proofs.RunLaws.{sizes, few}
 use Rattle.in_bytes.proofs.run.run_size.Goals as goal

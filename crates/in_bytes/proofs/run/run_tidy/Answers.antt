@@ -1,5 +1,3 @@
-use native.Mathlib.Omega.{arith}
-use Rattle.std.proofs.Common.{rules}
 use Rattle.codec.specs.Numbers.{part}
 use Rattle.in_bytes.proofs.RunLaws.{crowded, neat_parts}
 use Rattle.in_bytes.proofs.run.run_tidy.Goals as goal

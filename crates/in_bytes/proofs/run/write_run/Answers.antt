@@ -1,7 +1,5 @@
-use mathlib.Core.Path.{◌≡◌, refl}
-use lib.ListN.{length}
+use mathlib.Core.Path.{refl}
 use Rattle.std.proofs.Common.{rules}
-use Rattle.host.specs.Layout.{record_length}
 use Rattle.codec.specs.Numbers.{part}
 use Rattle.codec.proofs.Loops.{writing_start, writing_room, writing_more, writing_place, writing_end}
 use Rattle.in_bytes.proofs.RunLaws.{room, first_bytes, visits_first, streaks_first, results_first}

@@ -1,5 +1,4 @@
 use native.Mathlib.Omega.{arith}
-use lib.ListN.{length}
 use Rattle.codec.specs.Numbers.{part}
 use Rattle.codec.proofs.PartLaws.{length_part}
 use Rattle.in_bytes.proofs.SheetLaws.{sliced_room, columns_tidy, sheet_size, sheet_few}

@@ -1,4 +1,3 @@
-use native.Mathlib.Omega.{arith}
 use Rattle.codec.specs.Numbers.{part}
 use Rattle.in_bytes.proofs.SheetLaws.{sliced_room, tidy_columns}
 use Rattle.in_bytes.proofs.sheet.sheet_tidy.Goals as goal

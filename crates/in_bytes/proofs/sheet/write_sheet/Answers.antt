@@ -1,5 +1,4 @@
 use mathlib.Core.Path.{refl}
-use native.Mathlib.Omega.{arith}
 use Rattle.codec.specs.Numbers.{part}
 use Rattle.in_bytes.proofs.SheetLaws.{sliced_room, columns_tidy, head_fits, columns_fit, both_written}
 use Rattle.in_bytes.proofs.sheet.write_sheet.Goals as goal
