@@ -81,7 +81,7 @@ fn small_at(bytes: &[u8], at: usize) -> Option<Number>
     Some(number)
 }
 
-// Numbers of 32 or of 64 bits.
+// Numbers of 32 or of 64 bits: what a number of the type is, what a list of them is, and what all of them are below.
 pub trait Unsigned: Copy {
     ghost as_number: { Self → ℕ };
 
@@ -104,6 +104,7 @@ pub trait Unsigned: Copy {
     fn read_at(bytes: &[u8], at: usize) -> Option<Number>
         ensures { result ≡ number_of (number_below top bytes.now at) };
 
+    // There is one; a list is as long as that of its numbers, and has them at their places.
     ghost some: { 0 < top };
 
     ghost as_long: { (xs : List Self) → length (as_numbers xs) ≡ length xs };
@@ -211,6 +212,7 @@ pub fn field<T: Unsigned>(bytes: &[u8], at: usize) -> Option<Number>
 }
 
 // How many bytes a number takes.
+// Kept: here and in write_number the number itself says how often the loop runs, so there is no range to go over (d).
 pub fn number_size(n: u64) -> usize
     ensures { result ≡ length (leb128 n) }
 {

@@ -7,6 +7,8 @@ ghost use Rattle.codec.specs.Stored.{place_of, Stored};
 
 use crate::number::{Reader, Unsigned, number_size, write_number};
 
+// Kept: bytes and a place go in, the next place comes out, and `?` hands it on; by a lent Reader each contract would say two things more (d).
+
 // Numbers into all places of an array. The place behind them; None: the bytes are bad.
 pub fn read_numbers<T: Unsigned>(bytes: &[u8], start: usize, out: &mut [T]) -> Option<usize>
     ensures value { result ≡ place_of (numbers_at T.top (length out.old) bytes.now start) }

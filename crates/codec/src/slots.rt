@@ -80,6 +80,8 @@ impl Slot {
     }
 }
 
+// Kept: k stands beside the numbers here and below, since a caller's may be more than those of k slots (d).
+
 // Slots, k of them, from bytes into an array that is zero.
 pub fn read_slots(bytes: &[u8], start: usize, out: &mut [u64], one: Slot, k: usize) -> Option<usize>
     requires { ((one.before + suc one.after) * k ≤ length out.old) × ZeroFrom 0 out.old }

@@ -17,6 +17,7 @@ fn rows(count: u64, capacity: usize) -> usize
 }
 
 // Where the notes end, and the endings.
+// Kept: one function of both would take its five names as parameters (d).
 fn notes_end(xs: &[u64; layout::ANSWER]) -> usize
     ensures { result ≡ answer_notes + note_width * min (get_or xs.now answer_noted 0) notes }
 {

@@ -13,6 +13,7 @@ use codec::numbers::read_numbers;
 use host::layout;
 use workflow::layout::NUMBERS;
 
+// Kept: the mark as a bool, tested in one place and made where it is passed: the definition says it so too (d).
 fn read_given(
     bytes: &[u8],
     start: usize,

@@ -70,6 +70,8 @@ fn ends(place: Option<usize>, bytes: &[u8]) -> bool
     place == Some(bytes.len())
 }
 
+// Kept: the exported functions take slices and return a number, and the answers' arrays are lent: the C interface, and fixed memory (a).
+
 // A SHEET.
 
 pub fn kuxhoveza_write_sheet(sheet: &[u32], out: &mut [u8]) -> u64
