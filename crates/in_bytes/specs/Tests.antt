@@ -1,16 +1,7 @@
--- What the code has: the numbers of its refusals, where a read ends, and whether a node of a run is used.
+-- What the code tests: where a read ends, and whether a node of a run is used.
 use Rattle.std.specs.Prelude.{Bool, Option, Some, None, false, ◌&&◌, List, ℕ, ◌+◌, eqb}
 use Rattle.host.specs.Layout.{visits_place, streak_place, result_place}
 use Rattle.host.specs.Read.{at}
-use Rattle.in_bytes.specs.declared.Refusal.{Refusal}
-use Rattle.in_bytes.specs.Boundary.{bad_bytes, short, bad_form, bad_run}
-
--- A refusal's number.
-abbrev pub refusal_number : Refusal → ℕ
-refusal_number Refusal.BadForm = bad_form
-refusal_number Refusal.BadRun = bad_run
-refusal_number Refusal.BadBytes = bad_bytes
-refusal_number Refusal.Short = short
 
 -- What was read ends where the bytes end.
 unfoldable pub ends_at : (size : ℕ) → Option ℕ → Bool

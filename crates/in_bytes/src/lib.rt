@@ -11,8 +11,9 @@ pub mod structs;
 ghost use Rattle.std.specs.Prelude.{◌≡◌, ◌≤◌, length};
 ghost use Rattle.laws.specs.Splice.{splice};
 ghost use Rattle.workflow.specs.Layout.{numbers as sheet_length};
+ghost use Rattle.workflow.specs.Refusal.{number};
 ghost use Rattle.in_bytes.specs.Boundary.{no_item, packed, returned, left, write_sheet, write_run, write_event, read_sheet, read_run, read_event, said, told, decide, decide_on, is_said, said_in, Of64Bits, call_bytes, call_bytes_on};
-ghost use Rattle.in_bytes.specs.Tests.{ends_at, refusal_number};
+ghost use Rattle.in_bytes.specs.Tests.{ends_at};
 
 use crate::answer::{answer_size, write_answer};
 use crate::call::{read_call, read_rest};
@@ -23,16 +24,9 @@ use codec::numbers::{numbers_size, read_numbers, write_numbers};
 use host::read::run_fits;
 use host::{kuxhoveza_transition, layout};
 use workflow::layout::NUMBERS;
+use workflow::refusal::Refusal;
 
-// Refusals of this crate, by document 01's numbers. Their item is 255.
-#[derive(Clone, Copy)]
-enum Refusal {
-    BadForm = 20,
-    BadRun = 25,
-    BadBytes = 31,
-    Short = 32,
-}
-
+// The item of a refusal that names none.
 const NO_ITEM: u64 = 255;
 
 const HALF: u64 = 0x1_0000_0000;
@@ -45,9 +39,9 @@ fn packed(number: u64, rest: u64) -> u64
 }
 
 fn refused(refusal: Refusal) -> u64
-    ensures { result ≡ packed (refusal_number refusal) no_item }
+    ensures { result ≡ packed (number refusal) no_item }
 {
-    packed(refusal as u64, NO_ITEM)
+    packed(u64::from(refusal.number()), NO_ITEM)
 }
 
 fn done(size: usize) -> u64
@@ -82,11 +76,11 @@ pub fn kuxhoveza_write_sheet(sheet: &[u32], out: &mut [u8]) -> u64
         return receipt(layout::BAD_SHEET_LENGTH);
     };
     if !sheet_tidy(sheet) {
-        return refused(Refusal::BadForm);
+        return refused(Refusal::Form);
     }
     let size = sheet_size(sheet);
     if out.len() < size {
-        return refused(Refusal::Short);
+        return refused(Refusal::ShortBuffer);
     }
     write_sheet(out, sheet);
     done(size)
@@ -121,11 +115,11 @@ pub fn kuxhoveza_write_run(run: &[u64], out: &mut [u8]) -> u64
         return receipt(layout::BAD_RECORD);
     }
     if !run_tidy(run) {
-        return refused(Refusal::BadRun);
+        return refused(Refusal::Inconsistent);
     }
     let size = run_size(run);
     if out.len() < size {
-        return refused(Refusal::Short);
+        return refused(Refusal::ShortBuffer);
     }
     write_run(out, 0, run);
     done(size)
@@ -164,7 +158,7 @@ pub fn kuxhoveza_write_event(event: &[u64], out: &mut [u8]) -> u64
     }
     let size = numbers_size(event);
     if out.len() < size {
-        return refused(Refusal::Short);
+        return refused(Refusal::ShortBuffer);
     }
     write_numbers(out, 0, event);
     done(size)
@@ -220,7 +214,7 @@ fn answered(answer: &[u64; layout::ANSWER], out: &mut [u8]) -> u64
     }
     let size = answer_size(answer);
     if out.len() < size {
-        return refused(Refusal::Short);
+        return refused(Refusal::ShortBuffer);
     }
     write_answer(out, answer);
     done(size)
