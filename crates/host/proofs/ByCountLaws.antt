@@ -1,14 +1,14 @@
 -- A record read by count: where the rows past a count are zeros, they are read as empty rows, and they fit.
-use Rattle.std.specs.Prelude.{◌≡◌, refl, Bool, true, ◌&&◌, List, ℕ, zero, suc, ◌+◌, ◌-◌, ◌≤◌, ◌<◌, set, drop, replicate, ltb, eqb}
-use Rattle.std.proofs.Common.{sym, ◌∙◌, eqb-true, ltb-true, ltb-false}
+use Rattle.std.specs.Prelude.{◌≡◌, refl, Bool, true, ◌&&◌, List, [], ◌∷◌, ℕ, zero, suc, ◌+◌, ◌-◌, ◌≤◌, ◌<◌, set, take, drop, replicate, ltb}
+use Rattle.std.proofs.Common.{sym, ◌∙◌, eqb-true, ltb-true, ltb-false, get_or-take, get_or-drop}
 use Rattle.std.proofs.lemmas.Bool.{false≢true}
 use native.Mathlib.Omega.{arith}
 use Rattle.std.proofs.Math.ListN.{length}
 use Rattle.std.proofs.lemmas.List.{length-replicate}
-use Rattle.laws.specs.Bool.{when◌then◌else◌, split}
+use Rattle.laws.specs.Bool.{when◌then◌else◌, split, both}
 use Rattle.laws.specs.Rows.{span, length_span, at_span}
-use Rattle.laws.specs.Every.{below}
-use Rattle.laws.specs.In.{every_in, in_span, below_at, at_below}
+use Rattle.laws.specs.Every.{every, below}
+use Rattle.laws.specs.In.{below_at, at_below}
 use Rattle.laws.specs.Splice.{splice, Filled, fill_start, fill_next}
 use Rattle.laws.specs.Listing.{padded}
 use Rattle.model.specs.Record.{no_signal, no_visits, no_streak, no_node_result}
@@ -19,8 +19,17 @@ use Rattle.host.proofs.Lists.{span_list, length_padded, padded_at, padded_past}
 use Rattle.host.proofs.Cases.{below_fields, of_both}
 use Rattle.host.specs.ByCount.{blank, Zeros, SignalsPast, NodesPast, Past, record_rows}
 
-pub blank_zeros : (numbers : List ℕ) (start end : ℕ) → blank numbers start end ≡ true → Zeros numbers start end
-blank_zeros numbers start end h place a b = eqb-true _ 0 (every_in (λ number. eqb number 0) h (in_span (at numbers) (end - start) start end place (omega arith) a b))
+blank_at : (numbers : List ℕ) → blank numbers ≡ true → (i : ℕ) → at numbers i ≡ 0
+unfolding every
+blank_at [] e i = refl
+blank_at (x ∷ numbers) e zero = eqb-true x 0 (both _ _ e).0
+blank_at (x ∷ numbers) e (suc i) = blank_at numbers (both _ _ e).1 i
+
+pub blank_zeros : (numbers : List ℕ) (start end : ℕ) → blank (take (end - start) (drop start numbers)) ≡ true → Zeros numbers start end
+blank_zeros numbers start end e place a b =
+    let p : place ≡ start + (place - start) = omega arith in
+    let part = take (end - start) (drop start numbers) in
+    rw p (sym (get_or-take (end - start) (drop start numbers) (place - start) 0 (omega arith) ∙ get_or-drop start numbers (place - start) 0) ∙ blank_at part e (place - start))
 
 -- Rows that f reads up to k, and the empty one from there on, are all that f reads.
 padded_span : {A : Type 0} (f : ℕ → A) (d : A) (n k : ℕ) → k ≤ n → ((i : ℕ) → k ≤ i → i < n → f i ≡ d) → padded n d (span f 0 k) ≡ span f 0 n

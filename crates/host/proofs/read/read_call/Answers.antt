@@ -3,4 +3,4 @@ use Rattle.host.proofs.read.read_call.Goals as goal
 
 pub returns : goal.returns
 unfolding call_of
-returns c = simp (← c.ceilings-ceilings.ensures, ← c.limits-limits.ensures, ← c.event-event.ensures, ← c.mapping-first.ensures, ← c.mapping-second.ensures, ← c.number_at.ensures)
+returns c = simp (← c.ceilings.ensures, ← c.limits.ensures, ← c.event.ensures, ← c.mapping.ensures, ← c.mapping-2.ensures, ← c.number_at.ensures)

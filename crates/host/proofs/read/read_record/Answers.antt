@@ -4,4 +4,4 @@ use Rattle.host.proofs.read.read_record.Goals as goal
 
 pub returns : goal.returns
 unfolding record_rows record_of
-returns c = simp (← c.signals-signals.ensures, ← c.visits-visits.ensures, ← c.streaks-streaks.ensures, ← c.results-results.ensures, ← c.position-position.ensures, ← c.invocation-invocation.ensures, ← c.run_result-result.ensures, ← c.number_at.ensures, ← c.number_at-2.ensures, ← c.number_at-3.ensures, ← c.number_at-4.ensures)
+returns c = simp (← c.read_rows.ensures, ← c.read_rows-2.ensures, ← c.read_rows-3.ensures, ← c.read_rows-4.ensures, ← c.position.ensures, ← c.invocation.ensures, ← c.run_result.ensures, ← c.number_at.ensures, ← c.number_at-2.ensures, ← c.number_at-3.ensures, ← c.number_at-4.ensures)
