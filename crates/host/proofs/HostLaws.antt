@@ -1,7 +1,7 @@
 -- What a receipt tells of what was lent.
 use Rattle.std.proofs.Math.Path.{◌≡◌, sym}
-use Rattle.std.specs.Prelude.{refl, Bool, true, false, List, [], ◌∷◌, ℕ, ◌≤◌, ◌<◌, ltb, eqb}
-use Rattle.std.proofs.Common.{◌∙◌, ap, arith}
+use Rattle.std.specs.Prelude.{refl, Bool, true, false, List, [], ◌∷◌, ◌++◌, ℕ, ◌+◌, ◌≤◌, ◌<◌, drop, ltb, eqb, Result}
+use Rattle.std.proofs.Common.{◌∙◌, ap, ap₂, arith}
 use Rattle.std.proofs.Math.Bool.{not}
 use Rattle.std.proofs.Math.ListN.{length, get_or, set}
 use borrow.Author.Tests.{ltb-false, lt-ltb, le-ltb, eqb-true, eq-eqb, ne_eqb}
@@ -18,6 +18,7 @@ use Rattle.kernel.specs.declared.Decision.{Decision}
 use Rattle.kernel.specs.declared.Call.{Call}
 use Rattle.kernel.specs.Call.{given_record, transition}
 use Rattle.kernel.specs.Decision.{decision_of}
+use Rattle.host.specs.declared.Fault.{Fault}
 use Rattle.host.specs.Layout as layout
 use Rattle.host.specs.Layout.{call_length, record_length, answer_length, verdict_length}
 use Rattle.host.specs.Read.{has_record, record_of, call_of, record_fits, call_fits}
@@ -26,7 +27,7 @@ use Rattle.host.specs.declared.read.Used.{Used}
 use Rattle.host.specs.ByCount.{UsedRows, record_rows}
 use Rattle.host.proofs.ByCountLaws.{rows_record}
 use Rattle.host.specs.Host.{Lent, receipt, decided, answered, verdict_receipt, verdict_numbers, judged}
-use Rattle.host.specs.Receipt.{outcome_number, by_numbers}
+use Rattle.host.specs.Receipt.{fault_number, outcome_number, by_numbers}
 
 -- THE TESTS in their order. A receipt is that of the first length that isn't the layout's; and with all lengths, that of the numbers.
 module _ (n : ℕ) (c r : List ℕ) (b : ℕ) where
@@ -53,6 +54,10 @@ module _ (n : ℕ) (c r : List ℕ) (b : ℕ) where
   receipt_numbers l =
       simp (eq-eqb _ _ l.sheet, eq-eqb _ _ l.call, eq-eqb _ _ l.given, le-ltb _ _ l.roomy)
       (split (call_fits c) (λ h. split (has_record c and not (record_fits r)) (λ g. rw (h, g)) (λ g. rw (h, g))) (λ h. rw h))
+
+  -- the same, of what the code read of call and record
+  pub receipt_told : {o : Result (Unit {0}) Fault} {k g : List ℕ} → o ≡ by_numbers k g → k ≡ c → g ≡ r → Lent n (length c) (length r) b → outcome_number o ≡ receipt n c r b
+  receipt_told e p q l = ap outcome_number (e ∙ ap₂ by_numbers p q) ∙ receipt_numbers l
 
   -- A receipt of 0: the lengths are the layout's, and call and record fit.
   pub receipt_lent : receipt n c r b ≡ layout.written → Lent n (length c) (length r) b
@@ -108,25 +113,39 @@ given_rows : {r : List ℕ} {used : Used} {s : State} (b : Bool) → UsedRows b 
 given_rows {r} true u p = ap (given_record true) (p ∙ rows_record r (u.past refl))
 given_rows false u p = refl
 
+-- A fault's number isn't that of what is written.
+pub fault_told : (fault : Fault) → fault_number fault ≡ layout.written → ⊥
+fault_told Fault.ShortBuffer e = omega arith
+fault_told Fault.BadCall e = omega arith
+fault_told Fault.BadRecord e = omega arith
+fault_told Fault.SheetLength e = omega arith
+fault_told Fault.CallLength e = omega arith
+fault_told Fault.RecordLength e = omega arith
+
 -- WHAT A CALL LEAVES in the buffer: the decision on what was read, or the buffer as it was.
 module _ (w : List ℕ) (n : ℕ) (c r b : List ℕ) where
-  pub made : {used : Used} {s : State} {k : Call} {d : Decision} → UsedRows (has_record c) r used → s ≡ record_rows used.signals used.nodes r → k ≡ call_of c → d ≡ decision_of (transition (workflow w) (given_record (has_record c) s) k) → d ≡ decided w c r
+  pub made : {used : Used} {s : State} {call : Call} {d : Decision} {k g : List ℕ} → k ≡ c → g ≡ r → UsedRows (has_record k) g used → s ≡ record_rows used.signals used.nodes g → call ≡ call_of k → d ≡ decision_of (transition (workflow w) (given_record (has_record k) s) call) → d ≡ decided w c r
   unfolding decided
-  made u p q e = e ∙ rw (given_rows (has_record c) u p, q)
+  made {k = k} x y u p q e = e ∙ rw (given_rows (has_record k) u p, q, x, y)
 
   pub left : {d : Decision} {l : List ℕ} → d ≡ decided w c r → receipt n c r (length b) ≡ layout.written → l ≡ splice b 0 (decision_numbers d) → l ≡ answered w n c r b
   unfolding answered
   left p z e = e ∙ rw p (sym (if_true _ _ _ (eq-eqb _ layout.written z)))
 
-  pub untouched : (receipt n c r (length b) ≡ layout.written → ⊥) → b ≡ answered w n c r b
+  pub untouched : (fault : Fault) → fault_number fault ≡ receipt n c r (length b) → b ≡ answered w n c r b
   unfolding answered
-  untouched e = sym (if_false _ _ _ (ne_eqb _ layout.written e))
+  untouched fault e = sym (if_false _ _ _ (ne_eqb _ layout.written (λ z. fault_told fault (e ∙ z))))
 
 -- A VERDICT'S two numbers.
 length_verdict : (v : Verdict) → length (verdict_numbers v) ≡ verdict_length
 unfolding verdict_numbers
 length_verdict Fine = refl
 length_verdict (Broken number item) = refl
+
+verdict_front : (v : Verdict) (b : List ℕ) → verdict_numbers v ++ drop verdict_length b ≡ splice b 0 (verdict_numbers v)
+unfolding splice verdict_numbers
+verdict_front Fine b = refl
+verdict_front (Broken number item) b = refl
 
 -- The tests, one by one: of a sheet's length n and the room for the two numbers.
 module _ (n room : ℕ) where
@@ -144,11 +163,10 @@ module _ (n room : ℕ) where
 
 module _ (w : List ℕ) (n : ℕ) (k : Ceilings) (b : List ℕ) where
   pub judged_verdict : {v : Verdict} {l part : List ℕ} → v ≡ verdict (workflow w) k → l ≡ verdict_numbers v → part ≡ l → verdict_length ≤ length b → verdict_receipt n (length b) ≡ layout.written → part ++ drop verdict_length b ≡ judged w n k b
-  unfolding judged splice
+  unfolding judged
   judged_verdict {v} {l} p q r room e =
-      let long = length_verdict v in
-      let z : 0 + length (verdict_numbers v) ≡ verdict_length = omega arith in
-      rw (r, q) (rw p (sym (if_true _ _ _ (eq-eqb _ layout.written e))) )
+      let told : judged w n k b ≡ splice b 0 (verdict_numbers (verdict (workflow w) k)) = if_true _ _ _ (eq-eqb _ layout.written e) in
+      rw (r, q, p) (verdict_front (verdict (workflow w) k) b ∙ sym told)
 
   pub unjudged : (verdict_receipt n (length b) ≡ layout.written → ⊥) → b ≡ judged w n k b
   unfolding judged

@@ -83,4 +83,3 @@ result_is x e =
     let b = or_both x.visit x.outcome a.0 in
     let z : record { visit = x.visit; outcome = x.outcome; output = x.output } ≡ no_node_result = rw (b.0, b.1, output_is x.output a.1) in
     z
-

@@ -87,8 +87,12 @@ fn answer_call(
     if sheet_len != NUMBERS {
         return Err(Fault::SheetLength);
     }
-    let call = call.as_array().ok_or(Fault::CallLength)?;
-    let given = given.as_array().ok_or(Fault::RecordLength)?;
+    let Some(call) = call.as_array() else {
+        return Err(Fault::CallLength);
+    };
+    let Some(given) = given.as_array() else {
+        return Err(Fault::RecordLength);
+    };
     if answer.len() < layout::ANSWER {
         return Err(Fault::ShortBuffer);
     }

@@ -68,21 +68,9 @@ fn write_record(out: &mut [u64], at: usize, s: &State, count: usize)
         at + layout::RECORD_SIGNALS,
         leading(&s.signals, stored),
     );
-    write_rows(
-        out,
-        at + layout::RECORD_VISITS,
-        leading(&s.visits, count),
-    );
-    write_rows(
-        out,
-        at + layout::RECORD_STREAKS,
-        leading(&s.streaks, count),
-    );
-    write_rows(
-        out,
-        at + layout::RECORD_RESULTS,
-        leading(&s.results, count),
-    );
+    write_rows(out, at + layout::RECORD_VISITS, leading(&s.visits, count));
+    write_rows(out, at + layout::RECORD_STREAKS, leading(&s.streaks, count));
+    write_rows(out, at + layout::RECORD_RESULTS, leading(&s.results, count));
 }
 
 // A record's numbers by themselves.
