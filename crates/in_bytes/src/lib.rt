@@ -126,10 +126,10 @@ pub fn kuxhoveza_write_run(run: &[u64], out: &mut [u8]) -> u64
     ensures value { result ≡ returned (write_run run.now (length out.old)) }
     ensures out_after { out.new ≡ left (write_run run.now (length out.old)) out.old }
 {
-    if run.len() != layout::RECORD {
+    let Some(numbers) = run.as_array() else {
         return receipt(layout::BAD_RECORD_LENGTH);
-    }
-    if !run_fits(run) {
+    };
+    if !run_fits(numbers) {
         return receipt(layout::BAD_RECORD);
     }
     if !run_tidy(run, 0) {

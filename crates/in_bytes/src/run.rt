@@ -138,8 +138,8 @@ fn used_nodes(xs: &[u64]) -> usize
 }
 
 // The fields of a tidy record can hold its numbers. Only what is used is tested: what was read from bytes is tidy.
-pub fn tidy_fits(xs: &[u64]) -> bool
-    requires { (length xs.now ≡ record_length) × (run.tidy xs.now ≡ true) }
+pub fn tidy_fits(xs: &[u64; layout::RECORD]) -> bool
+    requires { run.tidy xs.now ≡ true }
     ensures { result ≡ record_fits xs.now }
 {
     let nodes = used_nodes(xs);

@@ -33,8 +33,7 @@ tidy_fits-requires c =
     let good : Bytes bytes = record { each = λ n. omega (arith, c.type_inv.bytes n) } in
     let f = sym c.ends.ensures ∙ not-false _ (not_from_true _ c.if-not-ends.false) in
     let w = is_whole _ (run.read bytes 0) c.read_run-place.ensures.value f in
-    let stored = c.read_run-place.ensures.stored in
-    (stored.long, tidy_read run run_exact bytes _ _ w good (sym run_width) stored)
+    tidy_read run run_exact bytes _ _ w good (sym run_width) c.read_run-place.ensures.stored
 
 pub returns-then-not-tidy_fits : goal.returns-then-not-tidy_fits
 returns-then-not-tidy_fits c =
