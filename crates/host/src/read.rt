@@ -9,7 +9,10 @@ use crate::rows::read_rows;
 use graph::Ceilings;
 use kernel::{Call, Limits};
 use model::event::{Event, Mapping, Mappings};
-use model::{ErrorInfo, InvocationState, Kept, Output, Position, RunResult, State};
+use model::{
+    BufferedSignal, ErrorInfo, InvocationState, Kept, NodeResult, Output, Position, RunResult,
+    State, Streak, Visits,
+};
 
 // What a field's number must be below: any number; the name of a node, an action, a signal or an outcome; the code of an
 // error; a mark.
@@ -170,11 +173,26 @@ pub fn read_record(xs: &[u64; layout::RECORD], used: Used) -> State
     requires { (used.signals ≤ store) × (used.nodes ≤ nodes) }
     ensures { result ≡ record_rows used.signals used.nodes xs.now }
 {
+    let mut signals = [BufferedSignal::none(); layout::STORE];
+    let mut visits = [Visits { count: 0 }; layout::NODES];
+    let mut streaks = [Streak {
+        outcome: 0,
+        count: 0,
+    }; layout::NODES];
+    let mut results = [NodeResult {
+        visit: 0,
+        outcome: 0,
+        output: Output::Nothing,
+    }; layout::NODES];
+    read_rows(&mut signals[..used.signals], xs);
+    read_rows(&mut visits[..used.nodes], xs);
+    read_rows(&mut streaks[..used.nodes], xs);
+    read_rows(&mut results[..used.nodes], xs);
     State {
-        signals: read_rows(xs, used.signals),
-        visits: read_rows(xs, used.nodes),
-        streaks: read_rows(xs, used.nodes),
-        results: read_rows(xs, used.nodes),
+        signals,
+        visits,
+        streaks,
+        results,
         last_sequence: xs[layout::RECORD_LAST_SEQUENCE],
         last_accepted_at: xs[layout::RECORD_LAST_ACCEPTED_AT],
         signal_count: number_at(xs, layout::RECORD_STORED),

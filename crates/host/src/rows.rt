@@ -5,7 +5,6 @@ ghost use Rattle.std.specs.Prelude.{◌≡◌, List, ℕ, ◌+◌, ◌*◌, ◌�
 ghost use mathlib.Core.List.{flat_map};
 ghost use Rattle.laws.specs.Splice.{splice};
 ghost use Rattle.laws.specs.Rows.{span};
-ghost use Rattle.laws.specs.Listing.{padded};
 ghost use Rattle.model.specs.Record.{no_signal, no_visits, no_streak, no_node_result};
 ghost use Rattle.host.specs.Layout.{store, nodes, signal_width, streak_width, result_width, note_width, ending_width};
 ghost use Rattle.host.specs.Read.{signal_of, visits_of, streak_of, result_of};
@@ -43,9 +42,6 @@ pub trait RecordRow: Row {
     ghost of: { List ℕ → ℕ → Self };
 
     ghost joined: { Self → ℕ };
-
-    fn none() -> Self
-        ensures { result ≡ none };
 
     fn read(xs: &[u64; layout::RECORD], i: usize) -> Self
         requires { i < room }
@@ -88,10 +84,6 @@ impl RecordRow for BufferedSignal {
     ghost joined = { signal_digits };
 
     ghost only_none = { signal_is };
-
-    fn none() -> BufferedSignal {
-        BufferedSignal::none()
-    }
 
     fn read(xs: &[u64; layout::RECORD], i: usize) -> BufferedSignal {
         let k = layout::RECORD_SIGNALS + layout::SIGNAL_WIDTH * i;
@@ -138,10 +130,6 @@ impl RecordRow for Visits {
 
     ghost only_none = { visits_is };
 
-    fn none() -> Visits {
-        Visits { count: 0 }
-    }
-
     fn read(xs: &[u64; layout::RECORD], i: usize) -> Visits {
         Visits {
             count: number_at(xs, layout::RECORD_VISITS + i),
@@ -178,13 +166,6 @@ impl RecordRow for Streak {
     ghost joined = { streak_digits };
 
     ghost only_none = { streak_is };
-
-    fn none() -> Streak {
-        Streak {
-            outcome: 0,
-            count: 0,
-        }
-    }
 
     fn read(xs: &[u64; layout::RECORD], i: usize) -> Streak {
         let k = layout::RECORD_STREAKS + layout::STREAK_WIDTH * i;
@@ -232,14 +213,6 @@ impl RecordRow for NodeResult {
     ghost joined = { result_digits };
 
     ghost only_none = { result_is };
-
-    fn none() -> NodeResult {
-        NodeResult {
-            visit: 0,
-            outcome: 0,
-            output: Output::Nothing,
-        }
-    }
 
     fn read(xs: &[u64; layout::RECORD], i: usize) -> NodeResult {
         let k = layout::RECORD_RESULTS + layout::RESULT_WIDTH * i;
@@ -294,16 +267,14 @@ impl Row for Ending {
     }
 }
 
-// The first rows of a record, and empty ones behind them.
-pub fn read_rows<T: RecordRow, const N: usize>(xs: &[u64; layout::RECORD], count: usize) -> [T; N]
-    requires { (count ≤ N) × (N ≤ T.room) }
-    ensures { result ≡ padded N T.none (span (T.of xs.now) 0 count) }
+// The first rows of a record.
+pub fn read_rows<T: RecordRow>(rows: &mut [T], xs: &[u64; layout::RECORD])
+    requires { length rows.old ≤ T.room }
+    ensures { rows.new ≡ span (T.of xs.now) 0 (length rows.old) }
 {
-    let mut rows = [T::none(); N];
-    for i in 0..count {
-        rows[i] = T::read(xs, i);
+    for (i, row) in rows.iter_mut().enumerate() {
+        *row = T::read(xs, i);
     }
-    rows
 }
 
 // The rows that are written: those up to a count where the digits of all others are 0, else all. One pass without a test, so
