@@ -18,9 +18,9 @@ returns c =
       c.from-9.ensures,
       c.from-10.ensures,
       c.from-11.ensures,
-      c.from-12.ensures ∙ marked_is _,
+      c.from-12.ensures ∙ marked_is c.args.e.has_error,
       c.from-13.ensures,
       c.from-14.ensures,
-      c.from-15.ensures ∙ marked_is _,
+      c.from-15.ensures ∙ marked_is c.args.e.retryable,
       c.from-16.ensures,
     )
