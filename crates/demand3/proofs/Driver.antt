@@ -1,5 +1,5 @@
 -- What the driver keeps: at every moment of a call the moves' laws hold of its machine, with what may still come.
-use Rattle.std.specs.Prelude.{◌≡◌, Bool, false, ◌⊎◌, List, [], ◌∷◌, ◌++◌, eqb, ltb}
+use Rattle.std.specs.Prelude.{◌≡◌, Bool, false, ◌⊎◌, List, [], ◌∷◌, ◌++◌, eqb, ltb, Option, Some, None}
 use Rattle.std.proofs.Math.Path.{refl, ap, subst, fun_ext}
 use Rattle.std.proofs.Common.{sym, ◌∙◌, inl, arith}
 use Rattle.std.proofs.Math.Bool.{true}
@@ -12,8 +12,6 @@ use Rattle.laws.specs.Settle.{settle, settle_rests}
 use Rattle.workflow.specs.View.{Workflow}
 use Rattle.workflow.specs.Lookup.{node_of}
 use Rattle.workflow.specs.Sound.{Sound}
-use Rattle.workflow.specs.declared.Found.{Found}
-use Rattle.workflow.specs.declared.Found.TheVariants.{At, Nothing}
 use Rattle.model.specs.declared.State.{State}
 use Rattle.model.specs.declared.event.Event.{Event}
 use Rattle.model.specs.declared.event.Mappings.{Mappings}
@@ -102,14 +100,14 @@ module _ (f : Workflow) (sheet : Sound f) (limit : ℕ) (e : Event) (m : Mapping
       (λ l. rw l (λ b. record { checks = inr (refl, omega (arith, ltb-true limit (x.microsteps + 1) l)); bounds = b }))
       (λ l. rw l (λ b. checked_moved k (x.microsteps + 1) x v t b))
 
-  checked_consume : (k : ℕ) (x : Machine) → Checks Consume (suc k) x → (y : Found) → first_signal x.state (node_of f x.state.position.node).signal ≡ y
+  checked_consume : (k : ℕ) (x : Machine) → Checks Consume (suc k) x → (y : Option ℕ) → first_signal x.state (node_of f x.state.position.node).signal ≡ y
       → Bounded f limit e m k (consume_by f limit e m y x) → Checked k (consume_by f limit e m y x)
   unfolding consume_by
-  checked_consume k x a (At i) z b =
+  checked_consume k x a (Some i) z b =
       let h = first_inside x.state _ i z in
       checked_counting k x _ (omega (arith, a.bounds.steps))
       (Tidy.good_take f sheet (removed x.state i) (signal_at x.state i) Consume Tidy.consumes (Tidy.after_removed f x.state i h a.checks)) b
-  checked_consume k x a Nothing z b = checked_moved k x.microsteps x (still x.state Rest) (record { after = record { tidy = a.checks.on.tidy; well = a.checks.well } }) b
+  checked_consume k x a None z b = checked_moved k x.microsteps x (still x.state Rest) (record { after = record { tidy = a.checks.on.tidy; well = a.checks.well } }) b
 
   -- a machine at rest stays
   rests : (n : Next) (k j : ℕ) (x : Machine) → Checks n k x → Bounds n j x → Checks n j x
@@ -166,17 +164,17 @@ module _ (f : Workflow) (sheet : Sound f) (limit : ℕ) (e : Event) (m : Mapping
         (λ l. rw l (λ b. record { base = b; keeps = tt; opens = tt }))
         (λ l. rw l (λ b. kept_moved k (x.microsteps + 1) x v g o b))
 
-    kept_consume : (k : ℕ) (x : Machine) → Keeps Consume (suc k) x → (y : Found) → first_signal x.state (node_of f x.state.position.node).signal ≡ y
+    kept_consume : (k : ℕ) (x : Machine) → Keeps Consume (suc k) x → (y : Option ℕ) → first_signal x.state (node_of f x.state.position.node).signal ≡ y
         → Checked k (consume_by f limit e m y x) → Kept k (consume_by f limit e m y x)
     unfolding consume_by
-    kept_consume k x a (At i) z b =
+    kept_consume k x a (Some i) z b =
         let s = removed x.state i in
         let g = signal_at x.state i in
         let t = a.base.checks.on.tidy.store.slotted in
         kept_counting k x _
         (Keep.good_take f s₀ e sheet s g Tidy.consumes (live_removed f s₀ e x.state i t (first_inside x.state _ i z) a.keeps.live) (stands_removed f s₀ e x.state i a.keeps.stands))
         (Opened.good_take f s₀.invocation s g Tidy.consumes (Opened.still_removed f s₀.invocation x.state i a.opens)) b
-    kept_consume k x a Nothing z b = kept_moved k x.microsteps x (still x.state Rest) (good_waits f s₀ e x.state a.keeps.live a.keeps.stands) (record { after = a.opens }) b
+    kept_consume k x a None z b = kept_moved k x.microsteps x (still x.state Rest) (good_waits f s₀ e x.state a.keeps.live a.keeps.stands) (record { after = a.opens }) b
 
     stays : (n : Next) (k j : ℕ) (x : Machine) → Keeps n k x → Checks n j x → Keeps n j x
     stays n k j x a b = record { base = b; keeps = a.keeps; opens = a.opens }
@@ -221,10 +219,10 @@ module _ (f : Workflow) (sheet : Sound f) (limit : ℕ) (e : Event) (m : Mapping
     plain_counting x v =
         either (λ (y : Machine). every plain y.notes ≡ true → every plain x.notes ≡ true) (ltb limit (x.microsteps + 1)) (λ _ g. g) (λ _ g. plain_before x.notes v.note g)
 
-    plain_consume : (y : Found) (x : Machine) → every plain (consume_by f limit e m y x).notes ≡ true → every plain x.notes ≡ true
+    plain_consume : (y : Option ℕ) (x : Machine) → every plain (consume_by f limit e m y x).notes ≡ true → every plain x.notes ≡ true
     unfolding consume_by
-    plain_consume (At i) x g = plain_counting x _ g
-    plain_consume Nothing x g = plain_before x.notes no_note g
+    plain_consume (Some i) x g = plain_counting x _ g
+    plain_consume None x g = plain_before x.notes no_note g
 
     plain_advance : (n : Next) (x : Machine) → every plain (advance_by f limit e m n x).notes ≡ true → every plain x.notes ≡ true
     unfolding advance_by

@@ -1,5 +1,5 @@
 -- What every move of a call keeps, on a sound sheet: signals are not lost, counts stay within their limits, and every order is new.
-use Rattle.std.specs.Prelude.{◌≡◌, ◌⊎◌, Bool, true, false, List, ℕ, ◌+◌, ◌≤◌, ◌<◌, get_or, length, eqb}
+use Rattle.std.specs.Prelude.{◌≡◌, ◌⊎◌, Bool, true, false, List, ℕ, ◌+◌, ◌≤◌, ◌<◌, get_or, length, eqb, Option, Some, None}
 use Rattle.std.proofs.Math.Path.{refl, ap, fun_ext}
 use Rattle.std.proofs.Common.{sym, ◌∙◌, subst, arith, length-set, get_or-set_same}
 use Rattle.std.proofs.Math.Logic.{inl, inr}
@@ -8,8 +8,6 @@ use borrow.Author.Tests.{leb-false, eqb-true, ne_eqb, not-true, not-false}
 use Rattle.laws.specs.Bool.{when◌then◌else◌, ◌and◌, both, join, if_true, if_false, split, either}
 use Rattle.workflow.specs.Code.{none, exhausted}
 use Rattle.model.specs.Code.{scheduled, unknown, stuck, run_started, signal_received, activity_result, end_routed, end_unrouted, end_overflow, end_ignored}
-use Rattle.workflow.specs.declared.Found.{Found}
-use Rattle.workflow.specs.declared.Found.TheVariants.{At, Nothing}
 use Rattle.workflow.specs.View.{Workflow}
 use Rattle.workflow.specs.Lookup.{route_of}
 use Rattle.workflow.specs.Sound.{Sound}
@@ -272,15 +270,15 @@ module _ (f : Workflow) (s₀ : State) (e : Event) where
       good_enter s n b m h g = good _ (entered f s n b m).no_end (leads_enter s n b m h g)
 
       -- ROUTING.
-      leads_follow : (s : State) (n o : ℕ) (x : Found) → route_of f n o ≡ x → Lives told s nothing → Leads told (follow_to f s n x)
+      leads_follow : (s : State) (n o : ℕ) (x : Option ℕ) → route_of f n o ≡ x → Lives told s nothing → Leads told (follow_to f s n x)
       unfolding follow_to
-      leads_follow s n o (At t) r g = record { leads = record { live = g; inside = sheet.targets n o t r } }
-      leads_follow s n o Nothing r g = record { leads = tt }
+      leads_follow s n o (Some t) r g = record { leads = record { live = g; inside = sheet.targets n o t r } }
+      leads_follow s n o None r g = record { leads = tt }
 
-      leads_limited : (s : State) (n o : ℕ) (x : Found) → Lives told s nothing → Leads told (route_limited f s n o x)
+      leads_limited : (s : State) (n o : ℕ) (x : Option ℕ) → Lives told s nothing → Leads told (route_limited f s n o x)
       unfolding route_limited
-      leads_limited s n o Nothing g = leads_follow _ n o _ refl g
-      leads_limited s n o (At x) g = leads_if _ (record { leads = (leads_follow _ n exhausted _ refl g).leads }) (leads_follow _ n o _ refl g)
+      leads_limited s n o None g = leads_follow _ n o _ refl g
+      leads_limited s n o (Some x) g = leads_if _ (record { leads = (leads_follow _ n exhausted _ refl g).leads }) (leads_follow _ n o _ refl g)
 
       leads_route : (s : State) (o : ℕ) (x : Output) → Lives told s nothing → Leads told (route f s o x)
       unfolding route
@@ -288,11 +286,11 @@ module _ (f : Workflow) (s₀ : State) (e : Event) where
 
     -- TAKING.
     module _ {told : ℕ → ℕ} (s : State) (x : BufferedSignal) where
-      good_take_by : (y : Found) {k : Next} → Missed k → Lives told s (λ q. is_it q x.sequence) → Stands s → Good told (take_by f y s x k)
+      good_take_by : (y : Option ℕ) {k : Next} → Missed k → Lives told s (λ q. is_it q x.sequence) → Stands s → Good told (take_by f y s x k)
       unfolding take_by
-      good_take_by (At t) m g h = record { after = (leads_route s _ _ (live_ended s x.sequence end_routed refl g)).leads }
-      good_take_by Nothing rests g h = record { after = record { live = live_ended s x.sequence end_unrouted refl g; stands = h; orders = tt } }
-      good_take_by Nothing consumes g h = record { after = record { live = live_ended s x.sequence end_unrouted refl g; stands = h } }
+      good_take_by (Some t) m g h = record { after = (leads_route s _ _ (live_ended s x.sequence end_routed refl g)).leads }
+      good_take_by None rests g h = record { after = record { live = live_ended s x.sequence end_unrouted refl g; stands = h; orders = tt } }
+      good_take_by None consumes g h = record { after = record { live = live_ended s x.sequence end_unrouted refl g; stands = h } }
 
       pub good_take : {k : Next} → Missed k → Lives told s (λ q. is_it q x.sequence) → Stands s → Good told (take_signal f s x k)
       good_take m g h = good_take_by _ m g h

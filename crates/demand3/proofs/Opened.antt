@@ -1,10 +1,8 @@
 -- Where an attempt is open, it is the one that the call orders, or it was open before: what every move keeps of it.
-use Rattle.std.specs.Prelude.{◌≡◌, Bool, false, [], ◌∷◌, ℕ, eqb}
+use Rattle.std.specs.Prelude.{◌≡◌, Bool, false, [], ◌∷◌, ℕ, eqb, Option, Some, None}
 use Rattle.std.proofs.Math.Path.{refl}
 use Rattle.laws.specs.Bool.{when◌then◌else◌, either}
 use Rattle.workflow.specs.View.{Workflow}
-use Rattle.workflow.specs.declared.Found.{Found}
-use Rattle.workflow.specs.declared.Found.TheVariants.{At, Nothing}
 use Rattle.model.specs.Code.{scheduled}
 use Rattle.model.specs.declared.ErrorInfo.{ErrorInfo}
 use Rattle.model.specs.declared.Output.{Output}
@@ -79,25 +77,25 @@ module _ (f : Workflow) (before : InvocationState) where
   unfolding enter
   good_enter s n b m = good_if _ (record { after = tt }) (good_if _ (good_terminate s _) (good_if _ (good_terminate s _) (good_arrive _ n b m)))
 
-  good_follow : (s : State) (n : ℕ) (x : Found) → Still s → Good (follow_to f s n x)
+  good_follow : (s : State) (n : ℕ) (x : Option ℕ) → Still s → Good (follow_to f s n x)
   unfolding follow_to
-  good_follow s n (At t) g = record { after = g }
-  good_follow s n Nothing g = record { after = tt }
+  good_follow s n (Some t) g = record { after = g }
+  good_follow s n None g = record { after = tt }
 
-  good_limited : (s : State) (n o : ℕ) (x : Found) → Still s → Good (route_limited f s n o x)
+  good_limited : (s : State) (n o : ℕ) (x : Option ℕ) → Still s → Good (route_limited f s n o x)
   unfolding route_limited
-  good_limited s n o Nothing g = good_follow _ n _ g
-  good_limited s n o (At x) g = good_if _ (record { after = (good_follow _ n _ g).after }) (good_follow _ n _ g)
+  good_limited s n o None g = good_follow _ n _ g
+  good_limited s n o (Some x) g = good_if _ (record { after = (good_follow _ n _ g).after }) (good_follow _ n _ g)
 
   good_route : (s : State) (o : ℕ) (x : Output) → Still s → Good (route f s o x)
   unfolding route
   good_route s o x g = good_if _ (record { after = tt }) (good_limited _ _ o _ g)
 
-  good_take_by : (y : Found) (s : State) (x : BufferedSignal) {k : Next} → Missed k → Still s → Good (take_by f y s x k)
+  good_take_by : (y : Option ℕ) (s : State) (x : BufferedSignal) {k : Next} → Missed k → Still s → Good (take_by f y s x k)
   unfolding take_by
-  good_take_by (At t) s x m g = record { after = (good_route s _ _ g).after }
-  good_take_by Nothing s x rests g = record { after = g }
-  good_take_by Nothing s x consumes g = record { after = g }
+  good_take_by (Some t) s x m g = record { after = (good_route s _ _ g).after }
+  good_take_by None s x rests g = record { after = g }
+  good_take_by None s x consumes g = record { after = g }
 
   pub good_take : (s : State) (x : BufferedSignal) {k : Next} → Missed k → Still s → Good (take f s x k)
   good_take s x m g = good_take_by _ s x m g

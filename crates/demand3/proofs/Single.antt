@@ -1,5 +1,5 @@
 -- The proof of what holds of every single call (specs, Single).
-use Rattle.std.specs.Prelude.{◌≡◌, refl, false, not, ◌⊎◌, ℕ, ◌+◌, ◌≤◌, ◌<◌, eqb}
+use Rattle.std.specs.Prelude.{◌≡◌, refl, false, not, ◌⊎◌, ℕ, ◌+◌, ◌≤◌, ◌<◌, eqb, Ok, Err, Some, None}
 use Rattle.std.proofs.Math.Path.{sym, ap}
 use Rattle.std.proofs.Common.{◌∙◌, arith, eqb-true, leb-true, ltb-true}
 use Rattle.std.proofs.Math.Bool.{true}
@@ -11,9 +11,7 @@ use Rattle.workflow.specs.Code.{none}
 use Rattle.workflow.specs.View.{Workflow}
 use Rattle.workflow.specs.Lookup.{node_of}
 use Rattle.workflow.specs.Sound.{Sound}
-use Rattle.graph.specs.declared.Verdict.{Verdict}
-use Rattle.graph.specs.declared.Verdict.TheVariants.{Fine, Broken}
-use Rattle.graph.specs.Verdict.{verdict}
+use Rattle.graph.specs.Verdict.{verdict, Verdict}
 use Rattle.graph.specs.Chain.{stage, stage_fine, rule_holds, Mild, mild_stages}
 use Rattle.graph.specs.Accepted.{rules, sound, verdict_mild}
 use Rattle.model.specs.declared.State.{State}
@@ -31,7 +29,7 @@ use Rattle.machine.specs.Events.{apply}
 use Rattle.kernel.specs.Code.{event_unfit, out_of_sequence, not_started, started_before, inconsistent, microsteps_exceeded, commands_exceeded, operations_exceeded}
 use Rattle.kernel.specs.Drive.{Machine, started, driven}
 use Rattle.kernel.specs.declared.Call.{Call}
-use Rattle.kernel.specs.Call.{refused, Last, no_record, last, is_start, start_stage, next_stage, record_stage, admission, given, finish_by, transition_by, transition}
+use Rattle.kernel.specs.Call.{refused, Last, is_start, start_stage, next_stage, record_stage, admission, given, finish_by, transition_by, transition}
 use Rattle.demand3.specs.Steps.{steps, begun_by, begun}
 use Rattle.demand3.proofs.StepsLaws.{few_steps, counts_steps}
 use Rattle.demand3.proofs.Tidy as Tidy
@@ -45,19 +43,19 @@ use Rattle.demand3.specs.Single.{Single, SizedLast}
 pub record Admitted (f : Workflow) (r : Last) (c : Call) : Type 0 where
   pub sheet : Sound f
   pub event : event_fits c.event c.mappings ≡ true
-  pub stage : record_stage f c r ≡ Fine
+  pub stage : record_stage f c r ≡ Ok tt
 
-pub admitted : (f : Workflow) (r : Last) (c : Call) → admission f r c ≡ Fine → Admitted f r c
+pub admitted : (f : Workflow) (r : Last) (c : Call) → admission f r c ≡ Ok tt → Admitted f r c
 unfolding admission
 admitted f r c e =
-    let v : verdict f c.ceilings ≡ Fine = stage_fine e (search stage depth 8) in
+    let v : verdict f c.ceilings ≡ Ok tt = stage_fine e (search stage depth 8) in
     record { sheet = sound f (rules f c.ceilings v); event = rule_holds event_unfit e (search stage depth 8); stage = stage_fine e (search stage depth 8) }
 
 -- A refusal before the step is none of 0 and 26.
 mild_record : (f : Workflow) (c : Call) (r : Last) → Mild (record_stage f c r)
 unfolding start_stage next_stage
-mild_record f c no_record = search (mild_stages, refl) depth 8
-mild_record f c (last s) = search (mild_stages, refl) depth 8
+mild_record f c None = search (mild_stages, refl) depth 8
+mild_record f c (Some s) = search (mild_stages, refl) depth 8
 
 mild_admission : (f : Workflow) (r : Last) (c : Call) → Mild (admission f r c)
 unfolding admission
@@ -106,7 +104,7 @@ pub record Begins (f : Workflow) (s : State) (e : Event) : Type 0 where
 
 pub begins : (f : Workflow) (r : Last) (c : Call) → SizedLast r → Admitted f r c → Begins f (given r c) c.event
 unfolding start_stage next_stage
-begins f no_record c z a =
+begins f None c z a =
     let u = in_time c.event c.mappings a.event in
     let k : is_start c.event.kind ≡ true = rule_holds not_started a.stage (search stage depth 8) in
     let q : eqb c.event.sequence 1 ≡ true = rule_holds out_of_sequence a.stage (search stage depth 8) in
@@ -122,7 +120,7 @@ begins f no_record c z a =
       none_left = none_left_empty running;
       sequence = eqb-true _ _ q;
     }
-begins f (last s) c z a =
+begins f (Some s) c z a =
     let u = in_time c.event c.mappings a.event in
     let n : not (is_start c.event.kind) ≡ true = rule_holds started_before a.stage (search stage depth 8) in
     let k : is_start c.event.kind ≡ false = not-true _ n in
@@ -190,13 +188,13 @@ module _ (f : Workflow) (sheet : Sound f) (c : Call) (s : State) (b : Begins f s
 
 single_by : (f : Workflow) (r : Last) (c : Call) (v : Verdict) → admission f r c ≡ v → SizedLast r → Single f c (begun_by v f r c) (transition_by v f r c)
 unfolding transition_by begun_by
-single_by f r c Fine e z =
+single_by f r c (Ok tt) e z =
     let a = admitted f r c e in
     let b = begins f r c z a in
     finishes f a.sheet c (given r c) b _ refl (checked_driven f a.sheet c.limits.microsteps c.event c.mappings (given r c) b.slotted.room b.tidy)
-single_by f r c (Broken k n) e z =
-    let m = (mild_admission f r c).mild k n e in
-    refuses f c 0 k n (omega arith) m.0 m.1
+single_by f r c (Err x) e z =
+    let m = (mild_admission f r c).mild x e in
+    refuses f c 0 x.rule x.item (omega arith) m.0 m.1
 
 -- EVERY CALL.
 pub every_call : (f : Workflow) (r : Last) (c : Call) → SizedLast r → Single f c (begun f r c) (transition f r c)

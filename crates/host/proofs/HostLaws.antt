@@ -1,6 +1,6 @@
 -- What a receipt tells of what was lent.
 use Rattle.std.proofs.Math.Path.{◌≡◌, sym}
-use Rattle.std.specs.Prelude.{refl, Bool, true, false, List, [], ◌∷◌, ◌++◌, ℕ, ◌+◌, ◌≤◌, ◌<◌, drop, ltb, eqb, Result}
+use Rattle.std.specs.Prelude.{refl, Bool, true, false, List, [], ◌∷◌, ◌++◌, ℕ, ◌+◌, ◌≤◌, ◌<◌, drop, ltb, eqb, Result, Ok, Err, Some}
 use Rattle.std.proofs.Common.{◌∙◌, ap, ap₂, arith}
 use Rattle.std.proofs.Math.Bool.{not}
 use Rattle.std.proofs.Math.ListN.{length, get_or, set}
@@ -11,12 +11,10 @@ use Rattle.workflow.specs.Layout.{numbers as sheet_length}
 use Rattle.workflow.specs.View.{workflow}
 use Rattle.model.specs.declared.State.{State}
 use Rattle.graph.specs.declared.Ceilings.{Ceilings}
-use Rattle.graph.specs.declared.Verdict.{Verdict}
-use Rattle.graph.specs.declared.Verdict.TheVariants.{Fine, Broken}
-use Rattle.graph.specs.Verdict.{verdict}
+use Rattle.graph.specs.Verdict.{verdict, Verdict}
 use Rattle.kernel.specs.declared.Decision.{Decision}
 use Rattle.kernel.specs.declared.Call.{Call}
-use Rattle.kernel.specs.Call.{given_record, transition}
+use Rattle.kernel.specs.Call.{Last, given_record, transition}
 use Rattle.kernel.specs.Decision.{decision_of}
 use Rattle.host.specs.declared.Fault.{Fault}
 use Rattle.host.specs.Layout as layout
@@ -108,10 +106,9 @@ module _ (n : ℕ) (c r : List ℕ) (b : ℕ) where
   unfolding by_numbers when◌then◌else◌ ◌and◌
   receipt_done l k g = sym (receipt_numbers l) ∙ split (has_record c) (λ a. let m = g a in rw (k, a, m)) (λ a. rw (k, a))
 
--- The record that is given, read by count: where none goes with the call, it isn't looked at.
-given_rows : {r : List ℕ} {used : Used} {s : State} (b : Bool) → UsedRows b r used → s ≡ record_rows used.signals used.nodes r → given_record b s ≡ given_record b (record_of r)
-given_rows {r} true u p = ap (given_record true) (p ∙ rows_record r (u.past refl))
-given_rows false u p = refl
+-- The record that goes with a call, read by count.
+pub given_rows : {r : List ℕ} {used : Used} {s : State} → UsedRows true r used → s ≡ record_rows used.signals used.nodes r → Some s ≡ given_record true (record_of r)
+given_rows {r} u p = ap Some (p ∙ rows_record r (u.past refl))
 
 -- A fault's number isn't that of what is written.
 pub fault_told : (fault : Fault) → fault_number fault ≡ layout.written → ⊥
@@ -124,9 +121,9 @@ fault_told Fault.RecordLength e = omega arith
 
 -- WHAT A CALL LEAVES in the buffer: the decision on what was read, or the buffer as it was.
 module _ (w : List ℕ) (n : ℕ) (c r b : List ℕ) where
-  pub made : {used : Used} {s : State} {call : Call} {d : Decision} {k g : List ℕ} → k ≡ c → g ≡ r → UsedRows (has_record k) g used → s ≡ record_rows used.signals used.nodes g → call ≡ call_of k → d ≡ decision_of (transition (workflow w) (given_record (has_record k) s) call) → d ≡ decided w c r
+  pub made : {l : Last} {call : Call} {d : Decision} {k g : List ℕ} → k ≡ c → g ≡ r → l ≡ given_record (has_record k) (record_of g) → call ≡ call_of k → d ≡ decision_of (transition (workflow w) l call) → d ≡ decided w c r
   unfolding decided
-  made {k = k} x y u p q e = e ∙ rw (given_rows (has_record k) u p, q, x, y)
+  made x y p q e = e ∙ rw (p, q, x, y)
 
   pub left : {d : Decision} {l : List ℕ} → d ≡ decided w c r → receipt n c r (length b) ≡ layout.written → l ≡ splice b 0 (decision_numbers d) → l ≡ answered w n c r b
   unfolding answered
@@ -139,13 +136,13 @@ module _ (w : List ℕ) (n : ℕ) (c r b : List ℕ) where
 -- A VERDICT'S two numbers.
 length_verdict : (v : Verdict) → length (verdict_numbers v) ≡ verdict_length
 unfolding verdict_numbers
-length_verdict Fine = refl
-length_verdict (Broken number item) = refl
+length_verdict (Ok tt) = refl
+length_verdict (Err x) = refl
 
 verdict_front : (v : Verdict) (b : List ℕ) → verdict_numbers v ++ drop verdict_length b ≡ splice b 0 (verdict_numbers v)
 unfolding splice verdict_numbers
-verdict_front Fine b = refl
-verdict_front (Broken number item) b = refl
+verdict_front (Ok tt) b = refl
+verdict_front (Err x) b = refl
 
 -- The tests, one by one: of a sheet's length n and the room for the two numbers.
 module _ (n room : ℕ) where

@@ -7,8 +7,9 @@ mod rows;
 pub mod write;
 
 ghost use Rattle.std.specs.Prelude.{◌≡◌, length};
+ghost use Rattle.kernel.specs.Call.{given_record};
 ghost use Rattle.host.specs.Layout.{layout_version, written};
-ghost use Rattle.host.specs.Read.{has_record};
+ghost use Rattle.host.specs.Read.{has_record, record_of};
 ghost use Rattle.host.specs.ByCount.{UsedRows};
 ghost use Rattle.host.specs.Write.{decision_numbers};
 ghost use Rattle.host.specs.Host.{receipt, decided, answered, Full, verdict_receipt, verdict_numbers, judged};
@@ -16,7 +17,8 @@ ghost use Rattle.host.specs.Receipt.{fault_number, outcome_number, by_numbers};
 
 use crate::read::{Used, call_fits, read_call, read_record, record_fits, used_rows};
 use crate::write::write_decision;
-use graph::{Ceilings, Verdict};
+use graph::{Broken, Ceilings};
+use model::State;
 use workflow::capped;
 use workflow::layout::{NODE_COUNT, NUMBERS};
 
@@ -72,6 +74,17 @@ fn by_numbers(
     Ok(())
 }
 
+// The record that goes with a call, if one does.
+fn read_given(given: &[u64; layout::RECORD], has_record: bool, used: Used) -> Option<State>
+    requires { UsedRows has_record given.now used }
+    ensures { result ≡ given_record has_record (record_of given.now) }
+{
+    if has_record {
+        return Some(read_record(given, used));
+    }
+    None
+}
+
 // One call: the lengths are tested before a number is read.
 fn answer_call(
     sheet: &[u32; NUMBERS],
@@ -102,7 +115,7 @@ fn answer_call(
     by_numbers(call, given, used)?;
     write_decision(
         answer,
-        kernel::transition(sheet, has_record, read_record(given, used), read_call(call)),
+        kernel::transition(sheet, read_given(given, has_record, used), read_call(call)),
         nodes,
     );
     Ok(())
@@ -127,12 +140,12 @@ pub fn kuxhoveza_transition(
     }
 }
 
-fn verdict_numbers(verdict: Verdict) -> [u32; layout::VERDICT]
+fn verdict_numbers(verdict: Result<(), Broken>) -> [u32; layout::VERDICT]
     ensures { result ≡ verdict_numbers verdict }
 {
     match verdict {
-        Verdict::Fine => [0, 0],
-        Verdict::Broken { rule, item } => [rule, item],
+        Ok(()) => [0, 0],
+        Err(Broken { rule, item }) => [rule, item],
     }
 }
 

@@ -1,5 +1,5 @@
 -- Entering a node: what an entry makes of a record, and each branch of the rules as the code comes to it.
-use Rattle.std.specs.Prelude.{◌≡◌, Bool, true, false, [], ◌∷◌, ℕ, ◌+◌, ◌≤◌, ◌<◌, length}
+use Rattle.std.specs.Prelude.{◌≡◌, Bool, true, false, [], ◌∷◌, ℕ, ◌+◌, ◌≤◌, ◌<◌, length, Option, Some, None}
 use Rattle.std.proofs.Math.Path.{refl, sym, ap}
 use Rattle.std.proofs.Common.{◌∙◌, arith, get_or-set_same}
 use Rattle.std.proofs.lemmas.Bool.{false≢true}
@@ -11,8 +11,6 @@ use Rattle.workflow.specs.Code.{none}
 use Rattle.workflow.specs.Layout.{node_room}
 use Rattle.workflow.specs.View.{Workflow}
 use Rattle.workflow.specs.Lookup.{node_slots}
-use Rattle.workflow.specs.declared.Found.{Found}
-use Rattle.workflow.specs.declared.Found.TheVariants.{At, Nothing}
 use Rattle.model.specs.Code.{field_params, visits_exceeded, activations_exceeded, invariant}
 use Rattle.model.specs.declared.Output.{Output}
 use Rattle.model.specs.declared.Visits.{Visits}
@@ -30,11 +28,11 @@ use Rattle.model.specs.Record.{no_visits, visits_of, with_visits, placed}
 use Rattle.model.specs.Step.{no_note, no_ending, still, reading, error, one_more_visit, answer, terminate, evaluate, schedule, arrive, enter}
 
 -- The value of a mapping answer, if it is one.
-unfoldable pub value_of : Evaluated → Found
-value_of (Evaluated.Value x) = At x
-value_of (Evaluated.Fault c d) = Nothing
-value_of Evaluated.Unencodable = Nothing
-value_of Evaluated.Lacking = Nothing
+unfoldable pub value_of : Evaluated → Option ℕ
+value_of (Evaluated.Value x) = Some x
+value_of (Evaluated.Fault c d) = None
+value_of Evaluated.Unencodable = None
+value_of Evaluated.Lacking = None
 
 -- WHAT AN ENTRY MAKES OF A RECORD. Where the run stands, and its result.
 abbrev pub placing : Entry → State → State
@@ -130,7 +128,7 @@ module _ (f : Workflow) where
   enter_with_params s n b m x = evaluate f (answer m 1) s n field_params b 2 (λ p. reading 2 (schedule f s n x (Params.Handle p)))
 
   -- A value is gone on with, and any other answer halts: a is the answer, v its value if any, and r the move.
-  pub evaluates : (e : Evaluated) (s : State) (n i b j : ℕ) (k : ℕ → Move) {a : Evaluated} {v : Found} {x : ℕ} {r : Move} → a ≡ e → v ≡ value_of a → v ≡ At x → r ≡ k x → r ≡ evaluate f e s n i b j k
+  pub evaluates : (e : Evaluated) (s : State) (n i b j : ℕ) (k : ℕ → Move) {a : Evaluated} {v : Option ℕ} {x : ℕ} {r : Move} → a ≡ e → v ≡ value_of a → v ≡ Some x → r ≡ k x → r ≡ evaluate f e s n i b j k
   unfolding value_of evaluate
   evaluates (Evaluated.Value y) s n i b j k {x = x} p q h g =
       let same : x ≡ y = cc in
@@ -139,7 +137,7 @@ module _ (f : Workflow) where
   evaluates Evaluated.Unencodable s n i b j k p q h g = cc
   evaluates Evaluated.Lacking s n i b j k p q h g = cc
 
-  pub halts : (e : Evaluated) (s : State) (n i b j : ℕ) (k : ℕ → Move) {a : Evaluated} {v : Found} {r : Move} → a ≡ e → v ≡ value_of a → v ≡ Nothing → r ≡ without_value a s n i b j → r ≡ evaluate f e s n i b j k
+  pub halts : (e : Evaluated) (s : State) (n i b j : ℕ) (k : ℕ → Move) {a : Evaluated} {v : Option ℕ} {r : Move} → a ≡ e → v ≡ value_of a → v ≡ None → r ≡ without_value a s n i b j → r ≡ evaluate f e s n i b j k
   unfolding value_of evaluate without_value
   halts (Evaluated.Value y) s n i b j k p q h g = cc
   halts (Evaluated.Fault c d) s n i b j k p q h g = rw p at g

@@ -1,5 +1,5 @@
 -- Between the step rules and their code: routing worked out from rows and numbers first, and a retry's tests without a sum.
-use Rattle.std.specs.Prelude.{◌≡◌, Bool, length, get_or, set, ltb, eqb}
+use Rattle.std.specs.Prelude.{◌≡◌, Bool, length, get_or, set, ltb, eqb, Option, Some, None}
 use Rattle.std.proofs.Math.Path.{refl, sym, ap}
 use Rattle.std.proofs.Common.{◌∙◌}
 use Rattle.std.proofs.Math.Bool.{true, false}
@@ -14,8 +14,6 @@ use Rattle.laws.specs.Rows.{span, take_span}
 use Rattle.laws.specs.Shift.{without, Shift, shift_done}
 use Rattle.workflow.specs.Code.{exhausted}
 use Rattle.model.specs.Code.{store, largest, running, scheduled, invariant, no_retry, largest_attempt, note_retry, note_exhausted, note_unrouted, end_routed, end_unrouted}
-use Rattle.workflow.specs.declared.Found.{Found}
-use Rattle.workflow.specs.declared.Found.TheVariants.{At, Nothing}
 use Rattle.workflow.specs.View.{Workflow}
 use Rattle.workflow.specs.Lookup.{node_slots, node_of, route_of}
 use Rattle.model.specs.declared.Output.{Output}
@@ -46,24 +44,24 @@ exhausts n o x = record { streak = no_streak; outcome = exhausted; note = record
 abbrev pub goes_on : (outcome : ℕ) → Streak → Routing
 goes_on o k = record { streak = k; outcome = o; note = no_note }
 
-unfoldable pub routing_of : Found → Streak → (node outcome : ℕ) → Routing
-routing_of Nothing k n o = goes_on o no_streak
-routing_of (At x) k n o = when leb x (streak_count k o) then exhausts n o x else goes_on o (record { outcome = o; count = streak_count k o + 1 })
+unfoldable pub routing_of : Option ℕ → Streak → (node outcome : ℕ) → Routing
+routing_of None k n o = goes_on o no_streak
+routing_of (Some x) k n o = when leb x (streak_count k o) then exhausts n o x else goes_on o (record { outcome = o; count = streak_count k o + 1 })
 
 -- Where a route leads.
-unfoldable pub next_of : Found → (node : ℕ) → Next
-next_of (At t) n = Enter t n
-next_of Nothing n = Refuse invariant
+unfoldable pub next_of : Option ℕ → (node : ℕ) → Next
+next_of (Some t) n = Enter t n
+next_of None n = Refuse invariant
 
 module _ (f : Workflow) (s : State) (n : ℕ) where
   -- The move that routes.
   abbrev pub along : Routing → Move
   along y = record { state = with_streak s n y.streak; next = next_of (route_of f n y.outcome) n; note = y.note; ending = no_ending; order = Order.Nothing; read = 0 }
 
-  pub follow_on : (x : Found) → follow_to f s n x ≡ still s (next_of x n)
+  pub follow_on : (x : Option ℕ) → follow_to f s n x ≡ still s (next_of x n)
   unfolding follow_to next_of
-  follow_on (At t) = refl
-  follow_on Nothing = refl
+  follow_on (Some t) = refl
+  follow_on None = refl
 
 -- WHAT IS STORED AND SAID, as the code works it out before it stores it: what it makes of a record.
 abbrev pub stored_by : State → (node : ℕ) → Routed → State
@@ -97,13 +95,13 @@ module _ (f : Workflow) (p : Position) (k : Streak) (o : ℕ) (x : Output) (e : 
   strays em le h = unstored_makes p k _ _ _ _ h (λ s a. rw a (simp (← em, le-leb _ _ le)))
 
 -- A signal that is taken: o is its outcome, v the route of that.
-module _ (f : Workflow) (p : Position) (k : Streak) (x : BufferedSignal) (m : Next) {o : ℕ} {v : Found} {r : Routed} (outcome : o ≡ signal_outcome x.outcome) (found : v ≡ signal_route f p.node o) where
-  pub misses : v ≡ Nothing → r ≡ unstored m (record { code = note_unrouted; node = p.node; a = x.event_id; b = o; c = 0 }) (record { sequence = x.sequence; ending = end_unrouted })
+module _ (f : Workflow) (p : Position) (k : Streak) (x : BufferedSignal) (m : Next) {o : ℕ} {v : Option ℕ} {r : Routed} (outcome : o ≡ signal_outcome x.outcome) (found : v ≡ signal_route f p.node o) where
+  pub misses : v ≡ None → r ≡ unstored m (record { code = note_unrouted; node = p.node; a = x.event_id; b = o; c = 0 }) (record { sequence = x.sequence; ending = end_unrouted })
       → Makes p k r (λ s. take f s x m)
   unfolding take_by
   misses z h = unstored_makes p k _ _ _ _ h (λ s a. rw a (simp (← outcome, ← found, z)))
 
-  pub takes : {t : ℕ} → v ≡ At t → Makes p k r (λ s. ends (record { sequence = x.sequence; ending = end_routed }) (route f s o (Output.Handle x.«data»))) → Makes p k r (λ s. take f s x m)
+  pub takes : {t : ℕ} → v ≡ Some t → Makes p k r (λ s. ends (record { sequence = x.sequence; ending = end_routed }) (route f s o (Output.Handle x.«data»))) → Makes p k r (λ s. take f s x m)
   unfolding take_by
   takes z h = record { inside = h.inside; of_record = λ s a b. h.of_record s a b ∙ sym (simp (a, ← outcome, ← found, z)) }
 
@@ -157,9 +155,9 @@ unfolding looked_at when◌then◌else◌
 looked_at_room n k = split (is_consume n) (λ h. rw h (omega arith)) (λ h. rw h (omega arith))
 
 -- THE MOVE THAT TAKES A SIGNAL, by what comes next. The store gives its oldest signal of the name that the node waits for; with none the run goes on waiting.
-unfoldable pub consumed : Workflow → State → Found → Move
-consumed f s (At i) = take f (removed s i) (signal_at s i) Consume
-consumed f s Nothing = still s Rest
+unfoldable pub consumed : Workflow → State → Option ℕ → Move
+consumed f s (Some i) = take f (removed s i) (signal_at s i) Consume
+consumed f s None = still s Rest
 
 unfoldable pub taking : Workflow → State → Next → (arrived : BufferedSignal) → Move
 taking f s Rest x = still s Rest
@@ -170,8 +168,8 @@ taking f s (Wants n i c) x = still s (Wants n i c)
 taking f s (Refuse n) x = still s (Refuse n)
 
 -- The search among the first k places of the store.
-abbrev pub sought : State → (name k : ℕ) → Found
-sought s a k = first (λ y. eqb y.signal a) (λ i _. At i) Nothing 0 (span (λ i. get_or s.signals i no_signal) 0 k)
+abbrev pub sought : State → (name k : ℕ) → Option ℕ
+sought s a k = first (λ y. eqb y.signal a) (λ i _. Some i) None 0 (span (λ i. get_or s.signals i no_signal) 0 k)
 
 sought_all : (s : State) (a : ℕ) → length s.signals ≡ 64 → sought s a (min store s.signal_count) ≡ first_signal s a
 unfolding first_signal listed
@@ -181,24 +179,24 @@ module _ (f : Workflow) (s : State) (x : BufferedSignal) (l : length s.signals �
   abbrev name : ℕ
   name = (node_of f s.position.node).signal
 
-  pub takes_found : (n : Next) {k i : ℕ} → k ≡ looked_at n s.signal_count → i < k → sought s name k ≡ At i → taken_by f n true (removed s i) (signal_at s i) ≡ taking f s n x
+  pub takes_found : (n : Next) {k i : ℕ} → k ≡ looked_at n s.signal_count → i < k → sought s name k ≡ Some i → taken_by f n true (removed s i) (signal_at s i) ≡ taking f s n x
   unfolding taken_by taking looked_at is_take is_consume consumed when◌then◌else◌
   takes_found Rest e h g = absurd (omega arith)
   takes_found (Enter n c) e h g = absurd (omega arith)
   takes_found Take e h g = absurd (omega arith)
   takes_found Consume e h g =
-      let z : first_signal s name ≡ At _ = sym (sought_all s name l) ∙ ap {B = Found} (λ (j : ℕ). sought s name j) (sym e) ∙ g in
+      let z : first_signal s name ≡ Some _ = sym (sought_all s name l) ∙ ap {B = Option ℕ} (λ (j : ℕ). sought s name j) (sym e) ∙ g in
       rw z
   takes_found (Wants n i c) e h g = absurd (omega arith)
   takes_found (Refuse n) e h g = absurd (omega arith)
 
-  pub takes_no_other : (n : Next) {k : ℕ} → k ≡ looked_at n s.signal_count → sought s name k ≡ Nothing → taken_by f n false s x ≡ taking f s n x
+  pub takes_no_other : (n : Next) {k : ℕ} → k ≡ looked_at n s.signal_count → sought s name k ≡ None → taken_by f n false s x ≡ taking f s n x
   unfolding taken_by taking looked_at is_take is_consume consumed when◌then◌else◌
   takes_no_other Rest e g = refl
   takes_no_other (Enter n c) e g = refl
   takes_no_other Take e g = refl
   takes_no_other Consume e g =
-      let z : first_signal s name ≡ Nothing = sym (sought_all s name l) ∙ ap {B = Found} (λ (j : ℕ). sought s name j) (sym e) ∙ g in
+      let z : first_signal s name ≡ None = sym (sought_all s name l) ∙ ap {B = Option ℕ} (λ (j : ℕ). sought s name j) (sym e) ∙ g in
       rw z
   takes_no_other (Wants n i c) e g = refl
   takes_no_other (Refuse n) e g = refl
@@ -216,7 +214,7 @@ pub record Picked (f : Workflow) (s : State) (n : Next) (x : BufferedSignal) (b 
   pub move_is : taken_by f n b t y ≡ taking f s n x
 
 module _ (f : Workflow) (s : State) (n : Next) (x : BufferedSignal) (l : length s.signals ≡ 64) {k i a : ℕ} (all : k ≡ looked_at n s.signal_count) (named : a ≡ (node_of f s.position.node).signal) where
-  pub picked_found : {t : State} {y : BufferedSignal} → i < k → sought s a k ≡ At i
+  pub picked_found : {t : State} {y : BufferedSignal} → i < k → sought s a k ≡ Some i
       → t ≡ set_signals s (without no_signal s.signals i) (s.signal_count - 1) → y ≡ get_or s.signals i no_signal → Picked f s n x (ltb i k) t y
   unfolding removed
   picked_found h g et ey =
@@ -226,15 +224,15 @@ module _ (f : Workflow) (s : State) (n : Next) (x : BufferedSignal) (l : length 
       record {
         position_is = ap (λ (z : State). z.position) et;
         streaks_are = ap (λ (z : State). z.streaks) et;
-        move_is = rw (lt-ltb i k h, et ∙ sym gone, ey ∙ signal_here s i (omega arith)) (takes_found f s x l n all h (ap {B = Found} (λ (b : ℕ). sought s b k) (sym named) ∙ g));
+        move_is = rw (lt-ltb i k h, et ∙ sym gone, ey ∙ signal_here s i (omega arith)) (takes_found f s x l n all h (ap {B = Option ℕ} (λ (b : ℕ). sought s b k) (sym named) ∙ g));
       }
 
-  pub picked_none : {t : State} {y : BufferedSignal} → k ≤ i → sought s a k ≡ Nothing → t ≡ s → y ≡ x → Picked f s n x (ltb i k) t y
+  pub picked_none : {t : State} {y : BufferedSignal} → k ≤ i → sought s a k ≡ None → t ≡ s → y ≡ x → Picked f s n x (ltb i k) t y
   picked_none h g et ey =
       record {
         position_is = ap (λ (z : State). z.position) et;
         streaks_are = ap (λ (z : State). z.streaks) et;
-        move_is = rw (le-ltb i k h, et, ey) (takes_no_other f s x l n all (ap {B = Found} (λ (b : ℕ). sought s b k) (sym named) ∙ g));
+        move_is = rw (le-ltb i k h, et, ey) (takes_no_other f s x l n all (ap {B = Option ℕ} (λ (b : ℕ). sought s b k) (sym named) ∙ g));
       }
 
 -- A time past the largest is late whatever the delay.

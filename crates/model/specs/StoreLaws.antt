@@ -1,5 +1,5 @@
 -- What the store does, as a list: a signal is stored, or goes; and its part of the run check, place by place.
-use Rattle.std.specs.Prelude.{◌≡◌, Bool, not, get_or, set, take, drop, replicate, length, ltb}
+use Rattle.std.specs.Prelude.{◌≡◌, Bool, not, get_or, set, take, drop, replicate, length, ltb, Some, None}
 use Rattle.std.proofs.Math.Path.{refl, sym, ap}
 use Rattle.std.proofs.Common.{◌∙◌, length-set, length-take, take_all, take-suc-set, drop-set-lt, drop-cons, lt-ltb, le-leb, leb-true, ltb-true, ltb-false}
 use Rattle.std.proofs.Math.Bool.{true, false}
@@ -17,7 +17,6 @@ use Rattle.laws.specs.Rows.{rows, span}
 use Rattle.laws.specs.Every.{every, below, every_then, every_append, every_remove}
 use Rattle.laws.specs.Listing.{padded, Listing, listing_none, listing_more}
 use Rattle.laws.specs.Shift.{remove_at, without, take_without, drop_without, length_without}
-use Rattle.workflow.specs.declared.Found.TheVariants.{At, Nothing}
 use Rattle.model.specs.Code.{store, largest, end_left_over}
 use Rattle.model.specs.Record.{no_signal, set_signals}
 use Rattle.model.specs.Store.{listed, stored, first_signal, signal_at, removed, appended, left_over, in_sequence, signal_zero, signals_fit, store_fits}
@@ -58,14 +57,14 @@ unfolding signal_at listed
 signal_past s i l h = past_taken no_signal s.signals i s.signal_count (omega arith)
 
 -- One that is found has a place in the store.
-first_below : {A : Type 0} (p : A → Bool) (j : ℕ) (xs : List A) (i : ℕ) → first p (λ k _. At k) Nothing j xs ≡ At i → i < j + length xs
+first_below : {A : Type 0} (p : A → Bool) (j : ℕ) (xs : List A) (i : ℕ) → first p (λ k _. Some k) None j xs ≡ Some i → i < j + length xs
 unfolding first when◌then◌else◌
 first_below p j [] i h = let z : ◌≡◌ {A = ℕ} 0 1 = cc in absurd (omega arith)
 first_below p j (x ∷ xs) i h =
-    split (p x) (λ t. let y : At j ≡ At i = rw t at h in let z : j ≡ i = cc in omega arith)
+    split (p x) (λ t. let y : Some j ≡ Some i = rw t at h in let z : j ≡ i = cc in omega arith)
     (λ t. omega (arith, first_below p (j + 1) xs i (rw t at h)))
 
-pub first_inside : (s : State) (name i : ℕ) → first_signal s name ≡ At i → i < s.signal_count
+pub first_inside : (s : State) (name i : ℕ) → first_signal s name ≡ Some i → i < s.signal_count
 unfolding first_signal listed
 first_inside s name i h = omega (arith, first_below _ 0 _ i h, length-take s.signal_count s.signals)
 

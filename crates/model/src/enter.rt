@@ -10,8 +10,8 @@ use crate::event::{Evaluated, Mappings};
 use crate::moves::{Move, Next, no_ending, no_note, still};
 use crate::time::planned;
 use crate::{ErrorInfo, InvocationState, Kept, Output, Position, RunResult, State, Visits, code};
+use workflow::code as sheet;
 use workflow::layout::{NODES, NUMBERS};
-use workflow::{Found, code as sheet};
 
 // A count below a limit, and one more.
 fn one_more(count: u32, limit: u32) -> u32
@@ -49,14 +49,14 @@ impl Mappings {
 
 impl Evaluated {
     // The value, if it is one.
-    fn value(self) -> Found
+    fn value(self) -> Option<u32>
         ensures { result ≡ value_of self }
     {
         match self {
-            Evaluated::Value(x) => Found::At(x),
-            Evaluated::Fault { code: _, detail: _ } => Found::Nothing,
-            Evaluated::Unencodable => Found::Nothing,
-            Evaluated::Lacking => Found::Nothing,
+            Evaluated::Value(x) => Some(x),
+            Evaluated::Fault { code: _, detail: _ } => None,
+            Evaluated::Unencodable => None,
+            Evaluated::Lacking => None,
         }
     }
 }
@@ -206,7 +206,7 @@ fn with_params(
     ensures entered_value { result.entered ≡ true }
 {
     let answer = mappings.answer(1);
-    let Found::At(params) = answer.value() else {
+    let Some(params) = answer.value() else {
         return halting(answer, node, code::FIELD_PARAMS, from, 2);
     };
     scheduling(w, node, visit, last, input, Params::Handle(params), 2)
@@ -225,7 +225,7 @@ fn activity(
     ensures entered_value { result.entered ≡ true }
 {
     let answer = mappings.answer(0);
-    let Found::At(input) = answer.value() else {
+    let Some(input) = answer.value() else {
         return halting(answer, node, code::FIELD_INPUT, from, 1);
     };
     let row = workflow::node_of(w, node);
@@ -241,7 +241,7 @@ fn completing(node: u32, from: u32, mappings: Mappings) -> Entry
     ensures entered_value { result.entered ≡ true }
 {
     let answer = mappings.answer(0);
-    let Found::At(output) = answer.value() else {
+    let Some(output) = answer.value() else {
         return halting(answer, node, code::FIELD_OUTPUT, from, 1);
     };
     finishing(true, code::RUN_COMPLETED, Output::Handle(output), 1)

@@ -57,7 +57,7 @@ returns c =
     let g = c.in-Some-as_array.ensures.cases in
     let lent : Lent a.sheet_len (length a.call.now) (length a.given.now) (length a.answer.now) = record { sheet = c.if-sheet_len-ne-NUMBERS.false; call = k.long; given = g.long; roomy = c.if-answer-lt-ANSWER.false } in
     let told = receipt_told _ _ _ _ c.in_ok-by_numbers.ensures k.same g.same lent in
-    let d = made a.sheet.now a.sheet_len a.call.now a.given.now a.answer.now k.same g.same c.used_rows-used.ensures c.read_record.ensures c.read_call.ensures c.transition.ensures in
+    let d = made a.sheet.now a.sheet_len a.call.now a.given.now a.answer.now k.same g.same c.read_given.ensures c.read_call.ensures c.transition.ensures in
     record {
       value = told;
       answer_after = left a.sheet.now a.sheet_len a.call.now a.given.now a.answer.now d (sym told) c.write_decision.ensures.out_after;

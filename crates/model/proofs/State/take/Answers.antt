@@ -1,3 +1,4 @@
+use Rattle.std.specs.Prelude.{Some, None}
 use native.Mathlib.Omega.{arith}
 use mathlib.Core.Path.{◌≡◌, refl, sym, ◌∙◌, ap}
 use Prim.Native.Nat.{◌+◌, ◌<◌, ◌≤◌}
@@ -9,7 +10,6 @@ use Rattle.laws.specs.Bool.{if_true, if_false}
 use Rattle.laws.specs.Arrays.{length_field, past_getD}
 use Rattle.laws.specs.First.{seek_start, seek_hit, seek_miss, seek_end}
 use Rattle.laws.specs.Shift.{shift_next}
-use Rattle.workflow.specs.declared.Found.TheVariants.{At, Nothing}
 use Rattle.workflow.specs.View.{workflow}
 use Rattle.workflow.specs.declared.Node.{Node}
 use Rattle.model.specs.declared.State.{State}
@@ -67,9 +67,9 @@ returns c =
     let name = c.node_of-row.result.signal in
     let all = c.looked_at-rows.result in
     -- what the search found
-    let found : c.loop-place.place < all → sought s name all ≡ At c.loop-place.place =
+    let found : c.loop-place.place < all → sought s name all ≡ Some c.loop-place.place =
     λ h. elim c.loop-place-test.branch [ else-loop-place-test w ↦ absurd (omega (arith, h, w.loop-place-test.false)) | then-loop-place-test+then-x-row w ↦ sym (seek_hit c.loop-place.invariant w.loop-place-test.true refl refl (eq-eqb _ _ w.if-x-row.true)) ] in
-    let none_found : all ≤ c.loop-place.place → sought s name all ≡ Nothing =
+    let none_found : all ≤ c.loop-place.place → sought s name all ≡ None =
     λ h. elim c.loop-place-test.branch [ else-loop-place-test w ↦ sym (seek_end c.loop-place.invariant w.loop-place-test.false) | then-loop-place-test+then-x-row w ↦ absurd (omega (arith, h, w.loop-place-test.true)) ] in
     -- what is taken, and the record without it
     let e = c.looked_at-rows.ensures in

@@ -11,8 +11,8 @@ returns-in_default c = record { result_value = λ s k. halts _ _ _ _ _ _ _ _ c.a
 
 pub returns-then-row-eq1 : goal.returns-then-row-eq1
 unfolding enter_activity enter_with_params when◌then◌else◌
-returns-then-row-eq1 c = record { result_value = λ s k. evaluates _ _ _ _ _ _ _ _ c.answer-answer.ensures c.value.ensures c.in-At.is (c.with_params.ensures.result_value s k ∙ sym (simp (← c.node_of-row.ensures, eq-eqb _ _ c.if-row-eq1.true))); entered_value = c.with_params.ensures.entered_value }
+returns-then-row-eq1 c = record { result_value = λ s k. evaluates _ _ _ _ _ _ _ _ c.answer-answer.ensures c.value.ensures c.in-Some.is (c.with_params.ensures.result_value s k ∙ sym (simp (← c.node_of-row.ensures, eq-eqb _ _ c.if-row-eq1.true))); entered_value = c.with_params.ensures.entered_value }
 
 pub returns : goal.returns
 unfolding enter_activity when◌then◌else◌
-returns c = record { result_value = λ s k. evaluates _ _ _ _ _ _ _ _ c.answer-answer.ensures c.value.ensures c.in-At.is (c.scheduling.ensures.result_value s k ∙ sym (simp (← c.node_of-row.ensures, ne_eqb _ _ c.if-row-eq1.false))); entered_value = c.scheduling.ensures.entered_value }
+returns c = record { result_value = λ s k. evaluates _ _ _ _ _ _ _ _ c.answer-answer.ensures c.value.ensures c.in-Some.is (c.scheduling.ensures.result_value s k ∙ sym (simp (← c.node_of-row.ensures, ne_eqb _ _ c.if-row-eq1.false))); entered_value = c.scheduling.ensures.entered_value }

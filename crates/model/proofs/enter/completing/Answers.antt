@@ -8,4 +8,4 @@ returns-in_default c = record { result_value = λ f s. halts _ _ _ _ _ _ _ _ c.a
 
 pub returns : goal.returns
 unfolding enter_complete
-returns c = record { result_value = λ f s. evaluates _ _ _ _ _ _ _ _ c.answer-answer.ensures c.value.ensures c.in-At.is (c.finishing.ensures.result_value s); entered_value = c.finishing.ensures.entered_value }
+returns c = record { result_value = λ f s. evaluates _ _ _ _ _ _ _ _ c.answer-answer.ensures c.value.ensures c.in-Some.is (c.finishing.ensures.result_value s); entered_value = c.finishing.ensures.entered_value }

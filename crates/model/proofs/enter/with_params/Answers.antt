@@ -7,4 +7,4 @@ returns-in_default c = record { result_value = λ s k. halts _ _ _ _ _ _ _ _ c.a
 
 pub returns : goal.returns
 unfolding enter_with_params
-returns c = record { result_value = λ s k. evaluates _ _ _ _ _ _ _ _ c.answer-answer.ensures c.value.ensures c.in-At.is (c.scheduling.ensures.result_value s k); entered_value = c.scheduling.ensures.entered_value }
+returns c = record { result_value = λ s k. evaluates _ _ _ _ _ _ _ _ c.answer-answer.ensures c.value.ensures c.in-Some.is (c.scheduling.ensures.result_value s k); entered_value = c.scheduling.ensures.entered_value }
