@@ -1,6 +1,7 @@
 // The form of a sheet (refusal 20): counts within their room, rows that fit and stand in order, unused slots zero.
 ghost use Rattle.std.specs.Prelude.{◌≡◌, ◌+◌, ◌≤◌, ◌<◌, leb};
 ghost use Rattle.workflow.specs.Layout.{numbers, route_room};
+ghost use Rattle.workflow.specs.declared.refusal.Refusal.{Refusal};
 ghost use Rattle.workflow.specs.View.{workflow, column_blank, node_table, route_table, limit_table, action_table, declared_table, table_blank, blank};
 ghost use Rattle.graph.specs.Form.{counts_fit, formed_node, routes_at, formed_route, formed_limit, formed_declared, ascends, form};
 ghost use Rattle.graph.specs.Verdict.{rule};
@@ -8,6 +9,7 @@ ghost use Rattle.graph.specs.FormLaws.{nodes_formed, actions_formed, routes_form
 
 use crate::{Broken, rule};
 use workflow::layout::NUMBERS;
+use workflow::refusal::Refusal;
 use workflow::{
     Declared, Limit, Node, Route, action_at, capped, code, declared_at, layout, limit_at, node_at,
     node_of, route_at,
@@ -326,7 +328,7 @@ fn is_formed(w: &[u32; NUMBERS]) -> bool
 }
 
 pub fn rule_20(w: &[u32; NUMBERS]) -> Result<(), Broken>
-    ensures { result ≡ rule 20 (form (workflow w.now)) }
+    ensures { result ≡ rule Refusal.Form (form (workflow w.now)) }
 {
-    rule(20, is_formed(w))
+    rule(Refusal::Form, is_formed(w))
 }

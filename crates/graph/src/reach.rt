@@ -1,5 +1,6 @@
 // Rules 14 and 15: nodes that start does not reach, and nodes that reach no end. Sets of nodes are 64-bit sets.
 ghost use Rattle.std.specs.Prelude.{◌≡◌, ◌^◌, ◌<◌, ◌≤◌};
+ghost use Rattle.workflow.specs.declared.refusal.Refusal.{Refusal};
 ghost use Rattle.workflow.specs.View.{workflow};
 ghost use Rattle.graph.specs.Lowest.{lowest};
 ghost use Rattle.graph.specs.Verdict.{rule_at};
@@ -9,6 +10,7 @@ ghost use Rattle.graph.specs.ReachLaws.{missing, add_end, ends, masks};
 
 use crate::{Broken, rule_at};
 use workflow::layout::NUMBERS;
+use workflow::refusal::Refusal;
 use workflow::{Route, capped, code, is_0_2, layout, node_of, route_at};
 
 fn bit(n: u32) -> u64
@@ -120,9 +122,9 @@ fn lowest_14(w: &[u32; NUMBERS]) -> Option<u32>
 
 pub fn rule_14(w: &[u32; NUMBERS]) -> Result<(), Broken>
     requires { Rules (workflow w.now) }
-    ensures { result ≡ rule_at 14 (lowest (workflow w.now).node_count (breaks_14 (workflow w.now))) }
+    ensures { result ≡ rule_at Refusal.Unreached (lowest (workflow w.now).node_count (breaks_14 (workflow w.now))) }
 {
-    rule_at(14, lowest_14(w))
+    rule_at(Refusal::Unreached, lowest_14(w))
 }
 
 fn lowest_15(w: &[u32; NUMBERS]) -> Option<u32>
@@ -138,7 +140,7 @@ fn lowest_15(w: &[u32; NUMBERS]) -> Option<u32>
 
 pub fn rule_15(w: &[u32; NUMBERS]) -> Result<(), Broken>
     requires { Rules (workflow w.now) }
-    ensures { result ≡ rule_at 15 (lowest (workflow w.now).node_count (breaks_15 (workflow w.now))) }
+    ensures { result ≡ rule_at Refusal.Unending (lowest (workflow w.now).node_count (breaks_15 (workflow w.now))) }
 {
-    rule_at(15, lowest_15(w))
+    rule_at(Refusal::Unending, lowest_15(w))
 }

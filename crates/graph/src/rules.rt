@@ -5,6 +5,7 @@ ghost use Rattle.laws.specs.Rows.{span};
 ghost use Rattle.laws.specs.First.{some};
 ghost use Rattle.workflow.specs.Code.{format_0_1};
 ghost use Rattle.workflow.specs.Layout.{route_room, limit_room, limit_outcome, declared_outcome};
+ghost use Rattle.workflow.specs.declared.refusal.Refusal.{Refusal};
 ghost use Rattle.workflow.specs.View.{workflow, cell};
 ghost use Rattle.workflow.specs.Lookup.{is_0_2};
 ghost use Rattle.graph.specs.Lowest.{lowest};
@@ -16,6 +17,7 @@ ghost use Rattle.graph.specs.RulesLaws.{some_in, Outcomes, marked, unmarked, now
 use crate::search::{rows_before, rows_end};
 use crate::{Broken, Ceilings, rule, rule_at};
 use workflow::layout::NUMBERS;
+use workflow::refusal::Refusal;
 use workflow::{capped, code, is_0_2, layout, node_of, policy_of};
 
 // Outcomes are below 255.
@@ -68,9 +70,12 @@ fn has_unmarked(
 
 // 1: a known format.
 pub fn rule_1(w: &[u32; NUMBERS]) -> Result<(), Broken>
-    ensures { result ≡ rule 1 (eqb (workflow w.now).format format_0_1 or is_0_2 (workflow w.now)) }
+    ensures { result ≡ rule Refusal.Format (eqb (workflow w.now).format format_0_1 or is_0_2 (workflow w.now)) }
 {
-    rule(1, (w[layout::FORMAT] == code::FORMAT_0_1) | is_0_2(w))
+    rule(
+        Refusal::Format,
+        (w[layout::FORMAT] == code::FORMAT_0_1) | is_0_2(w),
+    )
 }
 
 // 1: no params in format 1.
@@ -95,9 +100,9 @@ fn lowest_with_params(w: &[u32; NUMBERS]) -> Option<u32>
 
 pub fn rule_1_params(w: &[u32; NUMBERS]) -> Result<(), Broken>
     requires { form (workflow w.now) ≡ true }
-    ensures { result ≡ rule_at 1 (lowest (workflow w.now).node_count (breaks_1 (workflow w.now))) }
+    ensures { result ≡ rule_at Refusal.Format (lowest (workflow w.now).node_count (breaks_1 (workflow w.now))) }
 {
-    rule_at(1, lowest_with_params(w))
+    rule_at(Refusal::Format, lowest_with_params(w))
 }
 
 // In 1 to the most.
@@ -109,25 +114,25 @@ fn is_within(most: u32, x: u32) -> bool
 
 // 3: there are nodes, and no more than there may be.
 pub fn rule_3(w: &[u32; NUMBERS], c: Ceilings) -> Result<(), Broken>
-    ensures { result ≡ rule 3 (within c.nodes (workflow w.now).node_count) }
+    ensures { result ≡ rule Refusal.Nodes (within c.nodes (workflow w.now).node_count) }
 {
-    rule(3, is_within(c.nodes, w[layout::NODE_COUNT]))
+    rule(Refusal::Nodes, is_within(c.nodes, w[layout::NODE_COUNT]))
 }
 
 // 5: the start is there.
 pub fn rule_5(w: &[u32; NUMBERS]) -> Result<(), Broken>
-    ensures { result ≡ rule 5 (ltb (workflow w.now).start (workflow w.now).node_count) }
+    ensures { result ≡ rule Refusal.Start (ltb (workflow w.now).start (workflow w.now).node_count) }
 {
-    rule(5, w[layout::START] < w[layout::NODE_COUNT])
+    rule(Refusal::Start, w[layout::START] < w[layout::NODE_COUNT])
 }
 
 // 6: the limits are in range.
 pub fn rule_6(w: &[u32; NUMBERS], c: Ceilings) -> Result<(), Broken>
-    ensures { result ≡ rule 6 (within c.visits (workflow w.now).max_visits_per_node and within c.activations (workflow w.now).max_activations) }
+    ensures { result ≡ rule Refusal.Limits (within c.visits (workflow w.now).max_visits_per_node and within c.activations (workflow w.now).max_activations) }
 {
     let holds = is_within(c.visits, w[layout::MAX_VISITS_PER_NODE])
         & is_within(c.activations, w[layout::MAX_ACTIVATIONS]);
-    rule(6, holds)
+    rule(Refusal::Limits, holds)
 }
 
 // Rules 16 and 7, action by action.
@@ -180,13 +185,13 @@ fn action_verdict(
     let x = policy_of(w, action);
     if x.effect == code::RECONCILABLE {
         return Err(Broken {
-            rule: 16,
+            refusal: Refusal::Reconcilable,
             item: action,
         });
     }
     if breaks_7(w, c.attempts, action, from, to) {
         return Err(Broken {
-            rule: 7,
+            refusal: Refusal::ActionPolicy,
             item: action,
         });
     }
@@ -447,21 +452,21 @@ fn lowest_breaking(w: &[u32; NUMBERS], rule: u32) -> Option<u32>
 
 pub fn rule_8(w: &[u32; NUMBERS]) -> Result<(), Broken>
     requires { form (workflow w.now) ≡ true }
-    ensures { result ≡ rule_at 8 (lowest (workflow w.now).node_count (breaks_8 (workflow w.now))) }
+    ensures { result ≡ rule_at Refusal.Activity (lowest (workflow w.now).node_count (breaks_8 (workflow w.now))) }
 {
-    rule_at(8, lowest_breaking(w, 8))
+    rule_at(Refusal::Activity, lowest_breaking(w, 8))
 }
 
 pub fn rule_9(w: &[u32; NUMBERS]) -> Result<(), Broken>
     requires { form (workflow w.now) ≡ true }
-    ensures { result ≡ rule_at 9 (lowest (workflow w.now).node_count (breaks_9 (workflow w.now))) }
+    ensures { result ≡ rule_at Refusal.AwaitSignal (lowest (workflow w.now).node_count (breaks_9 (workflow w.now))) }
 {
-    rule_at(9, lowest_breaking(w, 9))
+    rule_at(Refusal::AwaitSignal, lowest_breaking(w, 9))
 }
 
 pub fn rule_12(w: &[u32; NUMBERS]) -> Result<(), Broken>
     requires { form (workflow w.now) ≡ true }
-    ensures { result ≡ rule_at 12 (lowest (workflow w.now).node_count (breaks_12 (workflow w.now))) }
+    ensures { result ≡ rule_at Refusal.LoopLimits (lowest (workflow w.now).node_count (breaks_12 (workflow w.now))) }
 {
-    rule_at(12, lowest_breaking(w, 12))
+    rule_at(Refusal::LoopLimits, lowest_breaking(w, 12))
 }

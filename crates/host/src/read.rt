@@ -1,4 +1,6 @@
 // A run record and a call from their numbers (docs/NUMBERS.md). A number that its field can't hold is read modulo 2^32.
+#![tactic(auto, unfolding(crate::specs::Read::narrow, crate::specs::Read::error_of, crate::specs::Read::position_of, crate::specs::Read::invocation_of, crate::specs::Read::run_result_of, crate::specs::Read::event_of, crate::specs::Read::mapping_of, crate::specs::Read::ceilings_of, crate::specs::Read::limits_of, crate::specs::Read::call_of))]
+
 ghost use Rattle.std.specs.Prelude.{◌≡◌, ◌≤◌, ◌<◌, length};
 ghost use Rattle.host.specs.Layout.{store, nodes, mappings};
 ghost use Rattle.host.specs.Read.{at, narrow, error_of, output_of, kept_of, position_of, invocation_of, run_result_of, event_of, mapping_of, ceilings_of, limits_of, call_of, all_fit, limit_fields, event_fields, mapping_fields, head_fields, error_fits, output_fits, kept_fits, head_fits, signal_fits, node_fits, record_fits, call_fits};

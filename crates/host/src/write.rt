@@ -1,4 +1,6 @@
 // A run record and an answer into a lent buffer (docs/NUMBERS.md).
+#![tactic(auto, unfolding(crate::specs::Write::scalar_numbers))]
+
 ghost use Rattle.std.specs.Prelude.{◌≡◌, ◌+◌, ◌≤◌, ◌++◌, length, replicate};
 ghost use Rattle.laws.specs.Splice.{splice};
 ghost use Rattle.host.specs.Layout.{nodes, record_signals, record_length, answer_length};

@@ -17,6 +17,7 @@ use model::store::leaves_over;
 use model::{BufferedSignal, State, code as record};
 use workflow::code::NONE;
 use workflow::layout::NUMBERS;
+use workflow::refusal::Refusal;
 
 // What a signal that is taken and the entry that follows make of a call: the record and what comes next, what was said, and how
 // many microsteps these were.
@@ -138,13 +139,13 @@ fn rest_answer(order: Order, limits: Limits, microsteps: u32, operations: u64) -
 {
     if limits.commands < order_count(order) {
         return Answer::Refused {
-            number: code::COMMANDS_EXCEEDED,
+            refusal: Refusal::CommandsExceeded,
             item: NONE,
         };
     }
     if (limits.operations as u64) < operations {
         return Answer::Refused {
-            number: code::OPERATIONS_EXCEEDED,
+            refusal: Refusal::OperationsExceeded,
             item: NONE,
         };
     }
@@ -158,29 +159,32 @@ fn answer_of(next: Next, order: Order, limits: Limits, microsteps: u32, operatio
     match next {
         Next::Rest => rest_answer(order, limits, microsteps, operations),
         Next::Enter { node: _, from: _ } => Answer::Refused {
-            number: record::INVARIANT,
+            refusal: Refusal::Invariant,
             item: NONE,
         },
         Next::Take => Answer::Refused {
-            number: record::INVARIANT,
+            refusal: Refusal::Invariant,
             item: NONE,
         },
         Next::Consume => rest_answer(Order::Nothing, limits, microsteps, operations),
         Next::Wants { node, field, from } => Answer::Wants { node, field, from },
-        Next::Refuse(number) => Answer::Refused { number, item: NONE },
+        Next::Refuse(refusal) => Answer::Refused {
+            refusal,
+            item: NONE,
+        },
     }
 }
 
 // A refusal has its number and item, and nothing more.
-pub fn refusal(number: u32, item: u32) -> Decision
-    ensures { result ≡ decision_of (refused number item) }
+pub fn refusal(refusal: Refusal, item: u32) -> Decision
+    ensures { result ≡ decision_of (refused refusal item) }
 {
     Decision {
         notes: [no_note(); code::LIST],
         endings: [no_ending(); code::LIST],
         note_count: 0,
         ending_count: 0,
-        answer: Answer::Refused { number, item },
+        answer: Answer::Refused { refusal, item },
         state: State::fresh(0),
     }
 }
@@ -281,7 +285,7 @@ fn decide(
             }
         }
         Answer::Wants { node, field, from } => want(node, field, from, state),
-        Answer::Refused { number, item } => refusal(number, item),
+        Answer::Refused { refusal: why, item } => refusal(why, item),
     }
 }
 
@@ -305,7 +309,7 @@ fn run(
     loop {
         microsteps += v.microsteps;
         if limits.microsteps < microsteps {
-            return refusal(code::MICROSTEPS_EXCEEDED, NONE);
+            return refusal(Refusal::MicrostepsExceeded, NONE);
         }
         let note = v.note;
         if 0 < note.code {

@@ -1,5 +1,6 @@
 -- The number and the values of each case of an answer, as document 01 lists them (docs/NUMBERS.md: where each stands).
 use Rattle.std.specs.Prelude.{List, [], ◌∷◌, ℕ}
+use Rattle.workflow.specs.Refusal.{number}
 use Rattle.model.specs.declared.Output.{Output}
 use Rattle.model.specs.declared.Kept.{Kept}
 use Rattle.model.specs.declared.answer.Params.{Params}
@@ -32,4 +33,4 @@ order_numbers (Order.Retry retry) = 2 ∷ retry.node ∷ retry.visit ∷ 0 ∷ r
 unfoldable pub answer_numbers : Answer → List ℕ
 answer_numbers (Answer.Next order microsteps) = 1 ∷ microsteps ∷ order_numbers order
 answer_numbers (Answer.Wants node field from) = 2 ∷ node ∷ field ∷ from ∷ 0 ∷ 0 ∷ 0 ∷ 0 ∷ 0 ∷ 0 ∷ 0 ∷ []
-answer_numbers (Answer.Refused number item) = 3 ∷ number ∷ item ∷ 0 ∷ 0 ∷ 0 ∷ 0 ∷ 0 ∷ 0 ∷ 0 ∷ 0 ∷ []
+answer_numbers (Answer.Refused refusal item) = 3 ∷ number refusal ∷ item ∷ 0 ∷ 0 ∷ 0 ∷ 0 ∷ 0 ∷ 0 ∷ 0 ∷ 0 ∷ []

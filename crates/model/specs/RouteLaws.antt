@@ -13,9 +13,10 @@ use Rattle.laws.specs.First.{first}
 use Rattle.laws.specs.Rows.{span, take_span}
 use Rattle.laws.specs.Shift.{without, Shift, shift_done}
 use Rattle.workflow.specs.Code.{exhausted}
-use Rattle.model.specs.Code.{store, largest, running, scheduled, invariant, no_retry, largest_attempt, note_retry, note_exhausted, note_unrouted, end_routed, end_unrouted}
+use Rattle.model.specs.Code.{store, largest, running, scheduled, largest_attempt, note_retry, note_exhausted, note_unrouted, end_routed, end_unrouted}
 use Rattle.workflow.specs.View.{Workflow}
 use Rattle.workflow.specs.Lookup.{node_slots, node_of, route_of}
+use Rattle.workflow.specs.declared.refusal.Refusal.{Refusal}
 use Rattle.model.specs.declared.Output.{Output}
 use Rattle.model.specs.declared.BufferedSignal.{BufferedSignal}
 use Rattle.model.specs.declared.Position.{Position}
@@ -51,7 +52,7 @@ routing_of (Some x) k n o = when leb x (streak_count k o) then exhausts n o x el
 -- Where a route leads.
 unfoldable pub next_of : Option ℕ → (node : ℕ) → Next
 next_of (Some t) n = Enter t n
-next_of None n = Refuse invariant
+next_of None n = Refuse Refusal.Invariant
 
 module _ (f : Workflow) (s : State) (n : ℕ) where
   -- The move that routes.
@@ -90,7 +91,7 @@ unstored_makes p k n t e m h g = record { inside = λ z. let y : false ≡ true 
 
 -- A node that lacks a slot goes astray.
 module _ (f : Workflow) (p : Position) (k : Streak) (o : ℕ) (x : Output) (e : Ending) where
-  pub strays : {m : ℕ} {r : Routed} → m ≡ node_slots f → m ≤ p.node → r ≡ unstored (Refuse invariant) no_note e → Makes p k r (λ s. ends e (route f s o x))
+  pub strays : {m : ℕ} {r : Routed} → m ≡ node_slots f → m ≤ p.node → r ≡ unstored (Refuse Refusal.Invariant) no_note e → Makes p k r (λ s. ends e (route f s o x))
   unfolding route when◌then◌else◌
   strays em le h = unstored_makes p k _ _ _ _ h (λ s a. rw a (simp (← em, le-leb _ _ le)))
 
@@ -270,7 +271,7 @@ pub record Tries (p : Position) (v : InvocationState) (last : ℕ) (r : Attempt)
   pub of_record : (s : State) → s.position ≡ p → s.invocation ≡ v → s.last_accepted_at ≡ last → tried s r ≡ m s
 
 abbrev pub no_attempt : Attempt
-no_attempt = record { ordered = false; invocation = no_invocation; next = Refuse no_retry; note = no_note; order = Order.Nothing }
+no_attempt = record { ordered = false; invocation = no_invocation; next = Refuse Refusal.NoRetry; note = no_note; order = Order.Nothing }
 
 -- A retry is refused: its time, which is late where b, is past the largest; or there is no number for the attempt.
 module _ (f : Workflow) (p : Position) (v : InvocationState) (last delay : ℕ) {b : Bool} (late : b ≡ ltb largest (planned f last delay)) {r : Attempt} where

@@ -2,6 +2,8 @@
 ghost use Rattle.std.specs.Prelude.{◌≡◌};
 ghost use Rattle.model.specs.Answers.{params_numbers, order_numbers, answer_numbers};
 
+use workflow::refusal::Refusal;
+
 #[derive(Clone, Copy)]
 pub enum Params {
     Nothing,
@@ -56,7 +58,7 @@ pub struct Ending {
 pub enum Answer {
     Next { order: Order, microsteps: u32 },
     Wants { node: u32, field: u32, from: u32 },
-    Refused { number: u32, item: u32 },
+    Refused { refusal: Refusal, item: u32 },
 }
 
 impl Params {
@@ -140,9 +142,9 @@ impl Answer {
                 0,
                 0,
             ],
-            Answer::Refused { number, item } => [
+            Answer::Refused { refusal, item } => [
                 3,
-                number as u64,
+                u64::from(refusal.number()),
                 item as u64,
                 0,
                 0,

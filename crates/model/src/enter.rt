@@ -12,6 +12,7 @@ use crate::time::planned;
 use crate::{ErrorInfo, InvocationState, Kept, Output, Position, RunResult, State, Visits, code};
 use workflow::code as sheet;
 use workflow::layout::{NODES, NUMBERS};
+use workflow::refusal::Refusal;
 
 // A count below a limit, and one more.
 fn one_more(count: u32, limit: u32) -> u32
@@ -134,7 +135,7 @@ fn halting(answer: Evaluated, node: u32, field: u32, from: u32, read: u32) -> En
     match answer {
         Evaluated::Value(_) => staying(true, Next::Rest),
         Evaluated::Fault { code, detail } => failing(true, code, node, detail, read),
-        Evaluated::Unencodable => staying(true, Next::Refuse(code::UNENCODABLE)),
+        Evaluated::Unencodable => staying(true, Next::Refuse(Refusal::Unencodable)),
         Evaluated::Lacking => staying(
             true,
             Next::Wants {
@@ -306,7 +307,7 @@ fn entry_of(
 {
     let n = node as usize;
     if workflow::capped(w[workflow::layout::NODE_COUNT], NODES) <= n {
-        return staying(false, Next::Refuse(code::INVARIANT));
+        return staying(false, Next::Refuse(Refusal::Invariant));
     }
     if w[workflow::layout::MAX_VISITS_PER_NODE] <= visits {
         return failing(false, code::VISITS_EXCEEDED, node, 0, 0);

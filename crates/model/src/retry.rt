@@ -10,6 +10,7 @@ use crate::moves::{Move, Next, no_ending, no_note};
 use crate::time::planned;
 use crate::{InvocationState, Kept, Position, State, code};
 use workflow::layout::NUMBERS;
+use workflow::refusal::Refusal;
 
 // The planned time is above the largest.
 fn is_late(w: &[u32; NUMBERS], last_accepted_at: u64, delay: u64) -> bool
@@ -37,7 +38,7 @@ fn no_attempt() -> Attempt
     Attempt {
         ordered: false,
         invocation: InvocationState::none(),
-        next: Next::Refuse(code::NO_RETRY),
+        next: Next::Refuse(Refusal::NoRetry),
         note: no_note(),
         order: Order::Nothing,
     }

@@ -12,6 +12,7 @@ use crate::moves::{Move, Next, no_ending, no_note};
 use crate::{BufferedSignal, NodeResult, Output, Position, State, Streak, code};
 use workflow::code as sheet;
 use workflow::layout::{NODES, NUMBERS};
+use workflow::refusal::Refusal;
 
 // The last place of the store.
 const LAST: usize = code::STORE - 1;
@@ -84,7 +85,7 @@ fn next_of(target: Option<u32>, node: u32) -> Next
             node: t,
             from: node,
         },
-        None => Next::Refuse(code::INVARIANT),
+        None => Next::Refuse(Refusal::Invariant),
     }
 }
 
@@ -164,7 +165,7 @@ fn routed_from(
     let node = position.node;
     let n = node as usize;
     if workflow::capped(w[workflow::layout::NODE_COUNT], NODES) <= n {
-        return unstored(Next::Refuse(code::INVARIANT), no_note(), ending);
+        return unstored(Next::Refuse(Refusal::Invariant), no_note(), ending);
     }
     let limit = workflow::find_limit(w, node, outcome);
     let routing = routing_of(limit, streak, node, outcome);

@@ -3,6 +3,7 @@
 
 pub mod code;
 pub mod layout;
+pub mod refusal;
 
 ghost use Rattle.std.specs.Prelude.{◌≡◌, min, ◌<◌};
 ghost use Rattle.workflow.specs.Layout.{route_room, limit_room};

@@ -19,4 +19,4 @@ returns-in-Wants c = simp c.in-Wants.is
 
 pub returns-in-Refused : goal.returns-in-Refused
 unfolding answer_numbers
-returns-in-Refused c = simp c.in-Refused.is
+returns-in-Refused c = rw (c.in-Refused.is, c.from.ensures, c.number.ensures)
