@@ -1,12 +1,12 @@
 -- What a receipt tells of what was lent.
 use Rattle.std.proofs.Math.Path.{◌≡◌, sym}
-use Rattle.std.specs.Prelude.{refl, Bool, true, false, List, [], ◌∷◌, ◌++◌, ℕ, ◌+◌, ◌≤◌, ◌<◌, drop, ltb, eqb, Result, Ok, Err, Some}
+use Rattle.std.specs.Prelude.{refl, true, false, List, ◌++◌, ℕ, ◌≤◌, ◌<◌, drop, ltb, eqb, Result, Ok, Err, Some}
 use Rattle.std.proofs.Common.{◌∙◌, ap, ap₂, arith}
 use Rattle.std.proofs.Math.Bool.{not}
-use Rattle.std.proofs.Math.ListN.{length, get_or, set}
+use Rattle.std.proofs.Math.ListN.{length}
 use borrow.Author.Tests.{ltb-false, lt-ltb, le-ltb, eqb-true, eq-eqb, ne_eqb}
 use Rattle.laws.specs.Bool.{when◌then◌else◌, ◌and◌, split, if_true, if_false}
-use Rattle.laws.specs.Splice.{splice, splice_one, splice_more, length_splice}
+use Rattle.laws.specs.Splice.{splice}
 use Rattle.workflow.specs.Layout.{numbers as sheet_length}
 use Rattle.workflow.specs.View.{workflow}
 use Rattle.model.specs.declared.State.{State}

@@ -5,21 +5,15 @@ use mathlib.Core.List.{List, [], ◌∷◌, ◌++◌, flat_map, append_assoc, ap
 use Rattle.std.proofs.lemmas.List.{get_or_at}
 use Rattle.laws.specs.Rows.{rows, rows_all}
 use Rattle.laws.specs.Splice.{splice, splice_more, length_flat}
-use Rattle.model.specs.declared.Output.{Output}
 use Rattle.model.specs.declared.Kept.{Kept}
-use Rattle.model.specs.declared.BufferedSignal.{BufferedSignal}
-use Rattle.model.specs.declared.Visits.{Visits}
-use Rattle.model.specs.declared.Streak.{Streak}
 use Rattle.model.specs.declared.NodeResult.{NodeResult}
 use Rattle.model.specs.declared.State.{State}
 use Rattle.model.specs.declared.answer.Params.{Params}
 use Rattle.model.specs.declared.answer.Order.{Order}
-use Rattle.model.specs.declared.answer.Note.{Note}
-use Rattle.model.specs.declared.answer.Ending.{Ending}
 use Rattle.model.specs.declared.answer.Answer.{Answer}
 use Rattle.model.specs.Answers.{output_numbers, kept_numbers, params_numbers, order_numbers, answer_numbers}
-use Rattle.host.specs.Layout.{store, nodes, signal_width, streak_width, result_width, note_width, ending_width, output_width, error_width, record_error, record_stored, record_signals, record_length, answer_noted}
-use Rattle.host.specs.Write.{signal_numbers, visits_numbers, streak_numbers, result_numbers, note_numbers, ending_numbers, scalar_numbers, head_numbers, record_numbers}
+use Rattle.host.specs.Layout.{store, nodes, error_width, record_error, record_stored, record_signals, record_length, answer_noted}
+use Rattle.host.specs.Write.{signal_numbers, visits_numbers, streak_numbers, result_numbers, scalar_numbers, head_numbers, record_numbers}
 pub use Rattle.host.specs.RowLaws.{length_output, length_signal, length_visits, length_streak, length_result, length_note, length_ending}
 
 pub length_kept : (x : Kept) → length (kept_numbers x) ≡ error_width

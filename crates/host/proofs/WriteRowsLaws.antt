@@ -1,7 +1,7 @@
 -- Rows written by count, over zeros: rows that are left out are empty, so that their numbers are the zeros that stand there.
-use Rattle.std.specs.Prelude.{◌≡◌, true, false, get_or, set, replicate, ltb, eqb}
+use Rattle.std.specs.Prelude.{◌≡◌, true, false, get_or, replicate}
 use Rattle.std.proofs.Math.Path.{refl}
-use Rattle.std.proofs.Common.{get_or-drop, sym, ap, ◌∙◌, mul-suc, mul-add, length-drop, take_at, get_or-append-add, eqb-true, ltb-true, ltb-false}
+use Rattle.std.proofs.Common.{get_or-drop, sym, ap, ◌∙◌, mul-suc, mul-add, length-drop, take_at, get_or-append-add}
 use Rattle.std.proofs.lemmas.Bool.{false≢true}
 use mathlib.Core.List.{List, [], ◌∷◌, ◌++◌, flat_map, append_assoc, append-nil}
 use Prim.Native.Nat.{ℕ, zero, suc, ◌+◌, ◌*◌, ◌-◌, ◌≤◌, ◌<◌, min}
@@ -13,14 +13,9 @@ use Rattle.std.proofs.Math.Seq.{length-take-le, drop-append-add, drop-drop}
 use borrow.Rule.Slice.PartMut.{put_mid}
 use Rattle.std.specs.Int.Bits.{bit_or}
 use Rattle.std.specs.List.{fold}
-use Rattle.laws.specs.Bool.{when◌then◌else◌, split}
-use Rattle.laws.specs.Splice.{splice, splice_one, splice_more, length_splice, length_flat, Written, write_start, write_next}
+use Rattle.laws.specs.Bool.{when◌then◌else◌}
+use Rattle.laws.specs.Splice.{splice, splice_more, length_splice, length_flat}
 use Rattle.laws.specs.Listing.{padded}
-use Rattle.model.specs.declared.Output.{Output}
-use Rattle.model.specs.declared.BufferedSignal.{BufferedSignal}
-use Rattle.model.specs.declared.Visits.{Visits}
-use Rattle.model.specs.declared.Streak.{Streak}
-use Rattle.model.specs.declared.NodeResult.{NodeResult}
 use Rattle.model.specs.declared.State.{State}
 use Rattle.model.specs.declared.answer.Answer as code
 use Rattle.model.specs.Answers.{output_numbers, answer_numbers}

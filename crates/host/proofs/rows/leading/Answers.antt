@@ -1,5 +1,5 @@
 use Rattle.std.proofs.Common.{arith, rules, refl, drop, length, sym, ◌∙◌, length-drop, take_all}
-use Rattle.std.specs.Prelude.{◌≡◌, ◌-◌, take, List, bit_or}
+use Rattle.std.specs.Prelude.{◌≡◌, ◌-◌, take, bit_or}
 use Rattle.std.proofs.lemmas.Iterator.Consumers.{fold_from_yields_List}
 use Rattle.std.proofs.lemmas.Iterator.{YieldsList-from_slice}
 use Rattle.host.proofs.WriteRowsLaws.{empty_past}
