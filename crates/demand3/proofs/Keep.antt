@@ -15,15 +15,14 @@ use Rattle.workflow.specs.Lookup.{route_of}
 use Rattle.workflow.specs.Sound.{Sound}
 use Rattle.model.specs.declared.ErrorInfo.{ErrorInfo}
 use Rattle.model.specs.declared.Output.{Output}
-use Rattle.model.specs.declared.Kept.{Kept}
 use Rattle.model.specs.declared.BufferedSignal.{BufferedSignal}
 use Rattle.model.specs.declared.Visits.{Visits}
 use Rattle.model.specs.declared.InvocationState.{InvocationState}
 use Rattle.model.specs.declared.State.{State}
 use Rattle.model.specs.declared.event.Event.{Event}
 use Rattle.model.specs.declared.event.Mappings.{Mappings}
-use Rattle.model.specs.declared.event.Evaluated.{Evaluated}
-use Rattle.model.specs.declared.answer.Params.{Params}
+use Rattle.model.specs.declared.event.NoValue.{NoValue}
+use Rattle.model.specs.declared.event.NoValue.TheVariants.{Fault, Unencodable, Lacking}
 use Rattle.model.specs.declared.answer.Order.{Order}
 use Rattle.model.specs.declared.answer.Note.{Note}
 use Rattle.model.specs.declared.answer.Ending.{Ending}
@@ -210,16 +209,16 @@ module _ (f : Workflow) (s₀ : State) (e : Event) where
     unfolding terminate
     leads_terminate s x g = leads_rest _ g (gone refl)
 
-    leads_evaluate : (a : Evaluated) (s : State) (n i b r : ℕ) (k : ℕ → Move) → Lives told s nothing → ((x : ℕ) → Leads told (k x)) → Leads told (evaluate f a s n i b r k)
+    leads_evaluate : (a : Result ℕ NoValue) (s : State) (n i b r : ℕ) (k : ℕ → Move) → Lives told s nothing → ((x : ℕ) → Leads told (k x)) → Leads told (evaluate f a s n i b r k)
     unfolding evaluate terminate
-    leads_evaluate (Evaluated.Value x) s n i b r k g h = h x
-    leads_evaluate (Evaluated.Fault c d) s n i b r k g h = leads_rest _ g (gone refl)
-    leads_evaluate Evaluated.Unencodable s n i b r k g h = record { leads = tt }
-    leads_evaluate Evaluated.Lacking s n i b r k g h = record { leads = tt }
+    leads_evaluate (Ok x) s n i b r k g h = h x
+    leads_evaluate (Err (Fault c d)) s n i b r k g h = leads_rest _ g (gone refl)
+    leads_evaluate (Err Unencodable) s n i b r k g h = record { leads = tt }
+    leads_evaluate (Err Lacking) s n i b r k g h = record { leads = tt }
 
     -- at a node with a new visit
     module _ (s : State) (n : ℕ) (h : (visits_of s₀ n).count < (visits_of s n).count) (g : Lives told s nothing) where
-      leads_schedule : (x r : ℕ) (p : Params) → Leads told (reading r (schedule f s n x p))
+      leads_schedule : (x r : ℕ) (p : Option ℕ) → Leads told (reading r (schedule f s n x p))
       unfolding schedule
       leads_schedule x r p =
           record {
@@ -320,10 +319,10 @@ module _ (f : Workflow) (s₀ : State) (e : Event) where
     unmoved : rise f s₀ e ≡ 0 → Stands s₁
     unmoved z = stays refl refl (omega arith) (omega arith)
 
-    stands_parked : (p : ℕ) (x : Kept) → eqb p scheduled ≡ false → Standing s₀.position.node s₀.visits (phased s₀.invocation p s₀.invocation.attempt x)
+    stands_parked : (p : ℕ) (x : Option ErrorInfo) → eqb p scheduled ≡ false → Standing s₀.position.node s₀.visits (phased s₀.invocation p s₀.invocation.attempt x)
     stands_parked p x z = stays refl refl (omega arith) (rw (if_false (eqb p scheduled) s₀.invocation.attempt (s₀.invocation.attempt + 1) z) rises)
 
-    stands_again : Standing s₀.position.node s₀.visits (phased s₀.invocation scheduled (s₀.invocation.attempt + 1) Kept.Nothing)
+    stands_again : Standing s₀.position.node s₀.visits (phased s₀.invocation scheduled (s₀.invocation.attempt + 1) None)
     unfolding when◌then◌else◌
     stands_again = stays refl refl (omega arith) rises
 
@@ -374,10 +373,10 @@ module _ (f : Workflow) (s₀ : State) (e : Event) where
             (leads_if _ (leads_if _ (leads_retry _ c) (leads_if _ (leads_fail _ _ _) (leads_fail _ _ _)))
             (leads_if _ (leads_rest _ live (stands_parked unknown _ refl)) (leads_if _ (leads_retry _ c) (leads_fail _ _ _)))))
 
-        leads_resolve_as_fail : (x : Kept) → Leads nothing (resolve_as_fail f x s₁ e)
+        leads_resolve_as_fail : (x : Option ErrorInfo) → Leads nothing (resolve_as_fail f x s₁ e)
         unfolding resolve_as_fail
-        leads_resolve_as_fail (Kept.Error x) = leads_terminate s₁ x live
-        leads_resolve_as_fail Kept.Nothing = leads_fail _ _ _
+        leads_resolve_as_fail (Some x) = leads_terminate s₁ x live
+        leads_resolve_as_fail None = leads_fail _ _ _
 
         leads_resolved : Stands s₁ → Leads nothing (on_resolved f s₁ e)
         unfolding on_resolved not_applicable resolve_as_complete named

@@ -8,13 +8,13 @@ use Rattle.workflow.specs.declared.Found.TheVariants.{At, Nothing}
 use Rattle.model.specs.Code.{scheduled}
 use Rattle.model.specs.declared.ErrorInfo.{ErrorInfo}
 use Rattle.model.specs.declared.Output.{Output}
-use Rattle.model.specs.declared.Kept.{Kept}
 use Rattle.model.specs.declared.BufferedSignal.{BufferedSignal}
 use Rattle.model.specs.declared.InvocationState.{InvocationState}
 use Rattle.model.specs.declared.State.{State}
 use Rattle.model.specs.declared.event.Event.{Event}
 use Rattle.model.specs.declared.event.Mappings.{Mappings}
-use Rattle.model.specs.declared.event.Evaluated.{Evaluated}
+use Rattle.model.specs.declared.event.NoValue.{NoValue}
+use Rattle.model.specs.declared.event.NoValue.TheVariants.{Fault, Unencodable, Lacking}
 use Rattle.model.specs.declared.answer.Order.{Order}
 use Rattle.model.specs.declared.moves.Next.{Next}
 use Rattle.model.specs.declared.moves.Next.TheVariants.{Rest, Enter, Take, Consume, Wants, Refuse}
@@ -59,12 +59,12 @@ module _ (f : Workflow) (before : InvocationState) where
   unfolding terminate
   good_terminate s x = record { after = closed refl }
 
-  good_evaluate : (a : Evaluated) (s : State) (n i b r : ℕ) (k : ℕ → Move) → ((x : ℕ) → Good (k x)) → Good (evaluate f a s n i b r k)
+  good_evaluate : (a : Result ℕ NoValue) (s : State) (n i b r : ℕ) (k : ℕ → Move) → ((x : ℕ) → Good (k x)) → Good (evaluate f a s n i b r k)
   unfolding evaluate
-  good_evaluate (Evaluated.Value x) s n i b r k g = g x
-  good_evaluate (Evaluated.Fault c d) s n i b r k g = record { after = (good_terminate s _).after }
-  good_evaluate Evaluated.Unencodable s n i b r k g = record { after = tt }
-  good_evaluate Evaluated.Lacking s n i b r k g = record { after = tt }
+  good_evaluate (Ok x) s n i b r k g = g x
+  good_evaluate (Err (Fault c d)) s n i b r k g = record { after = (good_terminate s _).after }
+  good_evaluate (Err Unencodable) s n i b r k g = record { after = tt }
+  good_evaluate (Err Lacking) s n i b r k g = record { after = tt }
 
   -- the attempt that is opened is the one that is ordered
   good_arrive : (s : State) (n b : ℕ) (m : Mappings) → Good (arrive f s n b m)
@@ -114,10 +114,10 @@ module _ (f : Workflow) (before : InvocationState) where
   unfolding fail_invocation stick
   good_fail s k d p = good_if _ (good_complete s _ _) (good_if _ (record { after = closed refl }) (good_terminate s _))
 
-  good_resolve_as_fail : (x : Kept) (s : State) (e : Event) → Good (resolve_as_fail f x s e)
+  good_resolve_as_fail : (x : Option ErrorInfo) (s : State) (e : Event) → Good (resolve_as_fail f x s e)
   unfolding resolve_as_fail
-  good_resolve_as_fail (Kept.Error x) s e = good_terminate s x
-  good_resolve_as_fail Kept.Nothing s e = good_fail s _ _ _
+  good_resolve_as_fail (Some x) s e = good_terminate s x
+  good_resolve_as_fail None s e = good_fail s _ _ _
 
   -- THE STORE holds no invocation.
   pub still_removed : (s : State) (i : ℕ) → Still s → Still (removed s i)

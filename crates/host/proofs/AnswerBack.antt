@@ -13,7 +13,6 @@ use Rattle.laws.specs.Splice.{splice}
 use Rattle.laws.specs.Listing.{padded}
 use Rattle.workflow.specs.View.{workflow}
 use Rattle.model.specs.declared.State.{State}
-use Rattle.model.specs.declared.answer.Params.{Params}
 use Rattle.model.specs.declared.answer.Order.{Order}
 use Rattle.model.specs.declared.answer.Answer as code
 use Rattle.model.specs.Answers.{params_numbers, order_numbers, answer_numbers}
@@ -33,10 +32,10 @@ use Rattle.host.proofs.Lists.{span_list, row_at, length_padded, padded_at}
 use Rattle.host.proofs.RoundBack.{record_back_of, record_numbers_length}
 
 -- THE ORDER behind the answer's first two numbers.
-params_back : (x : Params) (rest : List ℕ) → params_from (at (params_numbers x ++ rest) 0) (at (params_numbers x ++ rest) 1) ≡ x
+params_back : (x : Option ℕ) (rest : List ℕ) → params_from (at (params_numbers x ++ rest) 0) (at (params_numbers x ++ rest) 1) ≡ x
 unfolding params_numbers when◌then◌else◌
-params_back Params.Nothing rest = refl
-params_back (Params.Handle x) rest = refl
+params_back None rest = refl
+params_back (Some x) rest = refl
 
 order_back : (a b : ℕ) (x : Order) (rest : List ℕ) → order_from (a ∷ b ∷ (order_numbers x ++ rest)) ≡ x
 unfolding order_from order_numbers when◌then◌else◌

@@ -6,13 +6,12 @@ use Rattle.std.proofs.lemmas.List.{get_or_at}
 use Rattle.laws.specs.Rows.{rows, rows_all}
 use Rattle.laws.specs.Splice.{splice, splice_more, length_flat}
 use Rattle.model.specs.declared.Output.{Output}
-use Rattle.model.specs.declared.Kept.{Kept}
+use Rattle.model.specs.declared.ErrorInfo.{ErrorInfo}
 use Rattle.model.specs.declared.BufferedSignal.{BufferedSignal}
 use Rattle.model.specs.declared.Visits.{Visits}
 use Rattle.model.specs.declared.Streak.{Streak}
 use Rattle.model.specs.declared.NodeResult.{NodeResult}
 use Rattle.model.specs.declared.State.{State}
-use Rattle.model.specs.declared.answer.Params.{Params}
 use Rattle.model.specs.declared.answer.Order.{Order}
 use Rattle.model.specs.declared.answer.Note.{Note}
 use Rattle.model.specs.declared.answer.Ending.{Ending}
@@ -27,15 +26,15 @@ length_output Output.Nothing = refl
 length_output (Output.Handle x) = refl
 length_output (Output.Error e) = refl
 
-pub length_kept : (x : Kept) → length (kept_numbers x) ≡ error_width
+pub length_kept : (x : Option ErrorInfo) → length (kept_numbers x) ≡ error_width
 unfolding kept_numbers
-length_kept Kept.Nothing = refl
-length_kept (Kept.Error e) = refl
+length_kept None = refl
+length_kept (Some e) = refl
 
-length_params : (x : Params) → length (params_numbers x) ≡ 2
+length_params : (x : Option ℕ) → length (params_numbers x) ≡ 2
 unfolding params_numbers
-length_params Params.Nothing = refl
-length_params (Params.Handle x) = refl
+length_params None = refl
+length_params (Some x) = refl
 
 length_order : (x : Order) → length (order_numbers x) ≡ 9
 unfolding order_numbers

@@ -2,7 +2,6 @@
 use Rattle.std.specs.Prelude.{List, ℕ, ◌+◌, drop, eqb}
 use Rattle.laws.specs.Bool.{when◌then◌else◌}
 use Rattle.laws.specs.Rows.{span}
-use Rattle.model.specs.declared.answer.Params.{Params}
 use Rattle.model.specs.declared.answer.ScheduleActivity.{ScheduleActivity}
 use Rattle.model.specs.declared.answer.RetryActivity.{RetryActivity}
 use Rattle.model.specs.declared.answer.Order.{Order}
@@ -14,8 +13,8 @@ use Rattle.host.specs.Layout.{note_place, ending_place}
 use Rattle.host.specs.Read.{at, record_of}
 
 -- The order: none, a schedule, a retry.
-abbrev pub params_from : (has handle : ℕ) → Params
-params_from has handle = when eqb has 0 then Params.Nothing else Params.Handle handle
+abbrev pub params_from : (has handle : ℕ) → Option ℕ
+params_from has handle = when eqb has 0 then None else Some handle
 
 abbrev pub schedule_from : List ℕ → ScheduleActivity
 schedule_from numbers =

@@ -13,7 +13,7 @@ use graph::Ceilings;
 use kernel::{Call, Limits};
 use model::event::{Event, Mapping, Mappings};
 use model::{
-    BufferedSignal, ErrorInfo, InvocationState, Kept, NodeResult, Output, Position, RunResult,
+    BufferedSignal, ErrorInfo, InvocationState, NodeResult, Output, Position, RunResult,
     State, Streak, Visits,
 };
 
@@ -63,13 +63,13 @@ fn output(tag: u64, a: u64, b: u64, c: u64) -> Output
     Output::Error(error(a, b, c))
 }
 
-fn kept(tag: u64, a: u64, b: u64, c: u64) -> Kept
+fn kept(tag: u64, a: u64, b: u64, c: u64) -> Option<ErrorInfo>
     ensures { result ≡ kept_of tag a b c }
 {
     if tag == 0 {
-        return Kept::Nothing;
+        return None;
     }
-    Kept::Error(error(a, b, c))
+    Some(error(a, b, c))
 }
 
 // Rows.

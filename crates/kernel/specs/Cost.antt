@@ -8,12 +8,13 @@ use Rattle.workflow.specs.declared.Found.TheVariants.{At, Nothing}
 use Rattle.workflow.specs.View.{Workflow}
 use Rattle.model.specs.declared.ErrorInfo.{ErrorInfo}
 use Rattle.model.specs.declared.Output.{Output}
-use Rattle.model.specs.declared.Kept.{Kept}
+use Rattle.model.specs.declared.ErrorInfo.{ErrorInfo}
 use Rattle.model.specs.declared.BufferedSignal.{BufferedSignal}
 use Rattle.model.specs.declared.State.{State}
 use Rattle.model.specs.declared.event.Event.{Event}
 use Rattle.model.specs.declared.event.Mappings.{Mappings}
-use Rattle.model.specs.declared.event.Evaluated.{Evaluated}
+use Rattle.model.specs.declared.event.NoValue.{NoValue}
+use Rattle.model.specs.declared.event.NoValue.TheVariants.{Fault, Unencodable, Lacking}
 use Rattle.model.specs.declared.answer.Order.{Order}
 use Rattle.model.specs.declared.answer.Note.{Note}
 use Rattle.model.specs.declared.answer.Ending.{Ending}
@@ -100,12 +101,12 @@ module _ (f : Workflow) where
   unfolding terminate
   entered_terminate s x = entered_as _ Rest (omega arith)
 
-  entered_evaluate : (a : Evaluated) (s : State) (n i b r : ℕ) (k : ℕ → Move) → ((x : ℕ) → Entered s.signal_count (k x)) → Entered s.signal_count (evaluate f a s n i b r k)
+  entered_evaluate : (a : Result ℕ NoValue) (s : State) (n i b r : ℕ) (k : ℕ → Move) → ((x : ℕ) → Entered s.signal_count (k x)) → Entered s.signal_count (evaluate f a s n i b r k)
   unfolding evaluate terminate
-  entered_evaluate (Evaluated.Value x) s n i b r k g = g x
-  entered_evaluate (Evaluated.Fault c d) s n i b r k g = entered_as _ Rest (omega arith)
-  entered_evaluate Evaluated.Unencodable s n i b r k g = entered_as s (Refuse 28) (omega arith)
-  entered_evaluate Evaluated.Lacking s n i b r k g = entered_as s (Wants n i b) (omega arith)
+  entered_evaluate (Ok x) s n i b r k g = g x
+  entered_evaluate (Err (Fault c d)) s n i b r k g = entered_as _ Rest (omega arith)
+  entered_evaluate (Err Unencodable) s n i b r k g = entered_as s (Refuse 28) (omega arith)
+  entered_evaluate (Err Lacking) s n i b r k g = entered_as s (Wants n i b) (omega arith)
 
   entered_arrive : (s : State) (n b : ℕ) (m : Mappings) → Entered s.signal_count (arrive f s n b m)
   unfolding arrive enter_activity enter_await enter_complete schedule
@@ -185,10 +186,10 @@ module _ (f : Workflow) where
       (spares_if _ (spares_if _ (spares_retry s _) (spares_if _ (spares_fail s _ _ _) (spares_fail s _ _ _)))
       (spares_if _ (spares_as _ Rest (omega arith)) (spares_if _ (spares_retry s _) (spares_fail s _ _ _)))))
 
-  spares_resolve_as_fail : (x : Kept) (s : State) (e : Event) → Spares s.signal_count (resolve_as_fail f x s e)
+  spares_resolve_as_fail : (x : Option ErrorInfo) (s : State) (e : Event) → Spares s.signal_count (resolve_as_fail f x s e)
   unfolding resolve_as_fail
-  spares_resolve_as_fail (Kept.Error x) s e = spares_terminate s x
-  spares_resolve_as_fail Kept.Nothing s e = spares_fail s _ _ _
+  spares_resolve_as_fail (Some x) s e = spares_terminate s x
+  spares_resolve_as_fail None s e = spares_fail s _ _ _
 
   pub spares_resolved : (s : State) (e : Event) → Spares s.signal_count (on_resolved f s e)
   unfolding on_resolved not_applicable resolve_as_complete

@@ -14,7 +14,7 @@ use crate::reaction::Reaction;
 use model::answer::{Ending, Note};
 use model::event::Event;
 use model::moves::{Next, no_ending};
-use model::{BufferedSignal, InvocationState, Kept, Output, Position, State, code};
+use model::{BufferedSignal, InvocationState, Output, Position, State, code};
 use workflow::code as sheet;
 use workflow::layout::NUMBERS;
 
@@ -174,7 +174,7 @@ fn on_unknown(
     if needs_person(w, action) {
         return Reaction::Park {
             phase: code::UNKNOWN,
-            error: Kept::Nothing,
+            error: None,
             note: Note {
                 code: code::NOTE_UNKNOWN,
                 node: position.node,
@@ -266,8 +266,8 @@ fn resolve_as_fail(
 {
     let kept = invocation.error;
     match kept {
-        Kept::Error(error) => Reaction::Fail(error),
-        Kept::Nothing => fail_invocation(w, position, invocation, event.code, event.detail, false),
+        Some(error) => Reaction::Fail(error),
+        None => fail_invocation(w, position, invocation, event.code, event.detail, false),
     }
 }
 

@@ -9,7 +9,7 @@ ghost use Rattle.machine.specs.ReactionLaws.{At, Reacts};
 use crate::reaction::Reaction;
 use model::answer::Note;
 use model::event::Event;
-use model::{ErrorInfo, InvocationState, Kept, Output, Position, code};
+use model::{ErrorInfo, InvocationState, Output, Position, code};
 use workflow::layout::NUMBERS;
 use workflow::{Found, code as sheet};
 
@@ -84,7 +84,7 @@ pub fn fail_invocation(
     if parks(w, may_park) {
         return Reaction::Park {
             phase: code::STUCK,
-            error: Kept::Error(error),
+            error: Some(error),
             note: Note {
                 code: code::NOTE_STUCK,
                 node: position.node,

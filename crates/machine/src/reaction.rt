@@ -1,7 +1,7 @@
 // What an event makes of a run, as a value: only `apply` takes the run record and does it.
 use model::answer::{Ending, Note};
 use model::moves::Next;
-use model::{ErrorInfo, Kept, Output};
+use model::{ErrorInfo, Output};
 
 #[derive(Clone, Copy)]
 pub enum Reaction {
@@ -16,7 +16,11 @@ pub enum Reaction {
     // the next attempt is ordered, after a delay
     Retry(u64),
     // the run waits for a person, its invocation in that phase with the error that it keeps
-    Park { phase: u32, error: Kept, note: Note },
+    Park {
+        phase: u32,
+        error: Option<ErrorInfo>,
+        note: Note,
+    },
     // the run fails
     Fail(ErrorInfo),
 }

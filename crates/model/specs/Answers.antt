@@ -1,8 +1,7 @@
 -- The number and the values of each case of an answer, as document 01 lists them (docs/NUMBERS.md: where each stands).
-use Rattle.std.specs.Prelude.{List, [], ◌∷◌, ℕ}
+use Rattle.std.specs.Prelude.{List, [], ◌∷◌, ℕ, Option, Some, None}
 use Rattle.model.specs.declared.Output.{Output}
-use Rattle.model.specs.declared.Kept.{Kept}
-use Rattle.model.specs.declared.answer.Params.{Params}
+use Rattle.model.specs.declared.ErrorInfo.{ErrorInfo}
 use Rattle.model.specs.declared.answer.Order.{Order}
 use Rattle.model.specs.declared.answer.Answer.{Answer}
 
@@ -13,13 +12,13 @@ output_numbers (Output.Handle handle) = 1 ∷ handle ∷ 0 ∷ 0 ∷ []
 output_numbers (Output.Error error) = 2 ∷ error.code ∷ error.node ∷ error.detail ∷ []
 
 -- The error that a stuck invocation keeps.
-unfoldable pub kept_numbers : Kept → List ℕ
-kept_numbers Kept.Nothing = 0 ∷ 0 ∷ 0 ∷ 0 ∷ []
-kept_numbers (Kept.Error error) = 1 ∷ error.code ∷ error.node ∷ error.detail ∷ []
+unfoldable pub kept_numbers : Option ErrorInfo → List ℕ
+kept_numbers None = 0 ∷ 0 ∷ 0 ∷ 0 ∷ []
+kept_numbers (Some error) = 1 ∷ error.code ∷ error.node ∷ error.detail ∷ []
 
-unfoldable pub params_numbers : Params → List ℕ
-params_numbers Params.Nothing = 0 ∷ 0 ∷ []
-params_numbers (Params.Handle handle) = 1 ∷ handle ∷ []
+unfoldable pub params_numbers : Option ℕ → List ℕ
+params_numbers None = 0 ∷ 0 ∷ []
+params_numbers (Some handle) = 1 ∷ handle ∷ []
 
 -- The order: none, a schedule, a retry; then node, visit, action, attempt, not before, input, params.
 unfoldable pub order_numbers : Order → List ℕ

@@ -3,12 +3,6 @@ ghost use Rattle.std.specs.Prelude.{◌≡◌};
 ghost use Rattle.model.specs.Answers.{params_numbers, order_numbers, answer_numbers};
 
 #[derive(Clone, Copy)]
-pub enum Params {
-    Nothing,
-    Handle(u32),
-}
-
-#[derive(Clone, Copy)]
 pub struct ScheduleActivity {
     pub not_before: u64,
     pub node: u32,
@@ -16,7 +10,8 @@ pub struct ScheduleActivity {
     pub action: u32,
     pub attempt: u32,
     pub input: u32,
-    pub params: Params,
+    // the params' handle, if the node has params
+    pub params: Option<u32>,
 }
 
 #[derive(Clone, Copy)]
@@ -59,14 +54,13 @@ pub enum Answer {
     Refused { number: u32, item: u32 },
 }
 
-impl Params {
-    pub fn numbers(self) -> [u64; 2]
-        ensures { result ≡ params_numbers self }
-    {
-        match self {
-            Params::Nothing => [0, 0],
-            Params::Handle(x) => [1, x as u64],
-        }
+// The numbers of an order's params.
+pub fn params_numbers(params: Option<u32>) -> [u64; 2]
+    ensures { result ≡ params_numbers params }
+{
+    match params {
+        None => [0, 0],
+        Some(handle) => [1, u64::from(handle)],
     }
 }
 
@@ -77,26 +71,25 @@ impl Order {
         match self {
             Order::Nothing => [0; 9],
             Order::Schedule(x) => {
-                let kept = x.params;
-                let params = kept.numbers();
+                let params = params_numbers(x.params);
                 [
                     1,
-                    x.node as u64,
-                    x.visit as u64,
-                    x.action as u64,
-                    x.attempt as u64,
+                    u64::from(x.node),
+                    u64::from(x.visit),
+                    u64::from(x.action),
+                    u64::from(x.attempt),
                     x.not_before,
-                    x.input as u64,
+                    u64::from(x.input),
                     params[0],
                     params[1],
                 ]
             }
             Order::Retry(x) => [
                 2,
-                x.node as u64,
-                x.visit as u64,
+                u64::from(x.node),
+                u64::from(x.visit),
                 0,
-                x.attempt as u64,
+                u64::from(x.attempt),
                 x.not_before,
                 0,
                 0,
@@ -115,7 +108,7 @@ impl Answer {
                 let o = order.numbers();
                 [
                     1,
-                    microsteps as u64,
+                    u64::from(microsteps),
                     o[0],
                     o[1],
                     o[2],
@@ -129,9 +122,9 @@ impl Answer {
             }
             Answer::Wants { node, field, from } => [
                 2,
-                node as u64,
-                field as u64,
-                from as u64,
+                u64::from(node),
+                u64::from(field),
+                u64::from(from),
                 0,
                 0,
                 0,
@@ -142,8 +135,8 @@ impl Answer {
             ],
             Answer::Refused { number, item } => [
                 3,
-                number as u64,
-                item as u64,
+                u64::from(number),
+                u64::from(item),
                 0,
                 0,
                 0,

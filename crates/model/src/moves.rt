@@ -60,8 +60,8 @@ pub fn still(state: State, next: Next) -> Move
     ensures { result ≡ still state next }
 {
     Move {
-        state: state,
-        next: next,
+        state,
+        next,
         note: no_note(),
         ending: no_ending(),
         order: Order::Nothing,

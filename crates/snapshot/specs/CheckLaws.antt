@@ -18,7 +18,7 @@ use Rattle.snapshot.specs.Check.{result_unused, result_fits, result_zero, streak
 use Rattle.model.specs.Store.{leaves_over, store_fits}
 use Rattle.model.specs.Step.{no_mapping}
 use Rattle.snapshot.specs.EventCheck.{in_range}
-use Rattle.model.specs.declared.Kept.{Kept}
+use Rattle.model.specs.declared.ErrorInfo.{ErrorInfo}
 use Rattle.model.specs.declared.Visits.{Visits}
 use Rattle.model.specs.declared.Streak.{Streak}
 use Rattle.model.specs.declared.NodeResult.{NodeResult}
@@ -51,7 +51,7 @@ unfoldable pub terminal_by : (status : ℕ) → Position → InvocationState →
 terminal_by k p i x = is_no_position p and is_no_invocation i and result_of_status k x.output
 
 -- Exactly a stuck invocation keeps an error.
-abbrev pub error_fits : (phase : ℕ) → Kept → Bool
+abbrev pub error_fits : (phase : ℕ) → Option ErrorInfo → Bool
 error_fits p x = when keeps_error x then eqb p stuck else not (eqb p stuck)
 
 -- A node that waits or works.
