@@ -1,5 +1,5 @@
 -- What every move of a call keeps, on a sound sheet: signals are not lost, counts stay within their limits, and every order is new.
-use Rattle.std.specs.Prelude.{◌≡◌, ◌⊎◌, Bool, true, false, List, ℕ, ◌+◌, ◌≤◌, ◌<◌, get_or, length, eqb}
+use Rattle.std.specs.Prelude.{◌≡◌, ◌⊎◌, Bool, true, false, List, ℕ, ◌+◌, ◌≤◌, ◌<◌, get_or, length, eqb, Option, Some, None, Result, Ok, Err}
 use Rattle.std.proofs.Math.Path.{refl, ap, fun_ext}
 use Rattle.std.proofs.Common.{sym, ◌∙◌, subst, arith, length-set, get_or-set_same}
 use Rattle.std.proofs.Math.Logic.{inl, inr}
@@ -31,7 +31,7 @@ use Rattle.model.specs.declared.moves.Next.TheVariants.{Rest, Enter, Take, Consu
 use Rattle.model.specs.declared.moves.Move.{Move}
 use Rattle.model.specs.Record.{no_visits, visits_of, is_terminal, seen}
 use Rattle.model.specs.Store.{stored, signal_at, removed, appended}
-use Rattle.model.specs.Step.{no_ending, still, reading, one_more_visit, phased, arrival, terminate, evaluate, schedule, enter_activity, enter_await, enter_complete, arrive, enter, follow_to, route_limited, route, take_by, take as take_signal, retry}
+use Rattle.model.specs.Step.{no_ending, still, reading, one_more_visit, phased, arrival, terminate, evaluate, without_value, schedule, enter_activity, enter_await, enter_complete, arrive, enter, follow_to, route_limited, route, take_by, take as take_signal, retry}
 use Rattle.machine.specs.Events.{named, applies, not_applicable, complete_invocation, stick, fail_invocation, on_signal, on_success, on_failure, on_unknown, on_result, resolve_as_complete, resolve_as_fail, on_resolved, on_ended, react, apply}
 use Rattle.model.specs.StoreLaws.{IsSlotted, stored_length, appended_room, stored_appended, removed_at, stored_removed}
 use Rattle.demand3.specs.Words.{is_it, times, Counts, plain}
@@ -210,7 +210,7 @@ module _ (f : Workflow) (s₀ : State) (e : Event) where
     leads_terminate s x g = leads_rest _ g (gone refl)
 
     leads_evaluate : (a : Result ℕ NoValue) (s : State) (n i b r : ℕ) (k : ℕ → Move) → Lives told s nothing → ((x : ℕ) → Leads told (k x)) → Leads told (evaluate f a s n i b r k)
-    unfolding evaluate terminate
+    unfolding evaluate without_value terminate
     leads_evaluate (Ok x) s n i b r k g h = h x
     leads_evaluate (Err (Fault c d)) s n i b r k g h = leads_rest _ g (gone refl)
     leads_evaluate (Err Unencodable) s n i b r k g h = record { leads = tt }

@@ -1,5 +1,5 @@
 -- Where an attempt is open, it is the one that the call orders, or it was open before: what every move keeps of it.
-use Rattle.std.specs.Prelude.{◌≡◌, Bool, false, [], ◌∷◌, ℕ, eqb}
+use Rattle.std.specs.Prelude.{◌≡◌, Bool, false, [], ◌∷◌, ℕ, eqb, Option, Some, None, Result, Ok, Err}
 use Rattle.std.proofs.Math.Path.{refl}
 use Rattle.laws.specs.Bool.{when◌then◌else◌, either}
 use Rattle.workflow.specs.View.{Workflow}
@@ -20,7 +20,7 @@ use Rattle.model.specs.declared.moves.Next.{Next}
 use Rattle.model.specs.declared.moves.Next.TheVariants.{Rest, Enter, Take, Consume, Wants, Refuse}
 use Rattle.model.specs.declared.moves.Move.{Move}
 use Rattle.model.specs.Store.{removed, appended}
-use Rattle.model.specs.Step.{arrival, terminate, evaluate, schedule, enter_activity, enter_await, enter_complete, arrive, enter, follow_to, route_limited, route, take_by, take, retry}
+use Rattle.model.specs.Step.{arrival, terminate, evaluate, without_value, schedule, enter_activity, enter_await, enter_complete, arrive, enter, follow_to, route_limited, route, take_by, take, retry}
 use Rattle.machine.specs.Events.{not_applicable, complete_invocation, stick, fail_invocation, on_signal, on_success, on_failure, on_unknown, on_result, resolve_as_complete, resolve_as_fail, on_resolved, on_ended, react}
 use Rattle.demand3.specs.Demand3.{Attempt, attempt, ordered_by}
 use Rattle.demand3.proofs.Tidy.{Missed, rests, consumes}
@@ -60,7 +60,7 @@ module _ (f : Workflow) (before : InvocationState) where
   good_terminate s x = record { after = closed refl }
 
   good_evaluate : (a : Result ℕ NoValue) (s : State) (n i b r : ℕ) (k : ℕ → Move) → ((x : ℕ) → Good (k x)) → Good (evaluate f a s n i b r k)
-  unfolding evaluate
+  unfolding evaluate without_value
   good_evaluate (Ok x) s n i b r k g = g x
   good_evaluate (Err (Fault c d)) s n i b r k g = record { after = (good_terminate s _).after }
   good_evaluate (Err Unencodable) s n i b r k g = record { after = tt }

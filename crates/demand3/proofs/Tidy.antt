@@ -1,5 +1,5 @@
 -- Every move keeps the run check: what it hands back is tidy, and where it rests the run stands as it should.
-use Rattle.std.specs.Prelude.{◌≡◌, ◌⊎◌, Bool, false, List, ℕ, ◌+◌, ◌≤◌, ◌<◌, length, get_or, eqb, leb, ltb}
+use Rattle.std.specs.Prelude.{◌≡◌, ◌⊎◌, Bool, false, List, ℕ, ◌+◌, ◌≤◌, ◌<◌, length, get_or, eqb, leb, ltb, Option, Some, None, Result, Ok, Err}
 use Rattle.std.proofs.Math.Path.{refl, sym}
 use Rattle.std.proofs.Common.{◌∙◌, ap, get_or-set_same}
 use Rattle.std.proofs.Math.Logic.{inl, inr}
@@ -36,7 +36,7 @@ use Rattle.model.specs.declared.moves.Next.TheVariants.{Rest, Enter, Take, Consu
 use Rattle.model.specs.declared.moves.Move.{Move}
 use Rattle.model.specs.Record.{no_visits, no_streak, no_node_result, no_invocation, fresh, visits_of, streak_of, is_terminal, set_signals, set_visits, set_results, set_streaks, with_streak, with_result, seen, placed, finished}
 use Rattle.model.specs.Store.{listed, removed, appended, leaves_over, signals_fit}
-use Rattle.model.specs.Step.{still, position, one_more_visit, phased, arrival, terminate, evaluate, schedule, enter_activity, enter_await, enter_complete, arrive, enter, follow_to, follow, route_limited, route, signal_outcome, take_by, take as take_signal, retry}
+use Rattle.model.specs.Step.{still, position, one_more_visit, phased, arrival, terminate, evaluate, without_value, schedule, enter_activity, enter_await, enter_complete, arrive, enter, follow_to, follow, route_limited, route, signal_outcome, take_by, take as take_signal, retry}
 use Rattle.machine.specs.Events.{named, applies, not_applicable, complete_invocation, stick, fail_invocation, on_signal, on_success, on_failure, on_unknown, on_result, resolve_as_complete, resolve_as_fail, on_resolved, on_ended, react}
 use Rattle.snapshot.specs.Check.{result_unused, result_fits, streak_fits, slot_fits, slots_fit, counters_fit, keeps_error, is_no_invocation, result_of_status, phase_fits, waits, works, stands, consistent}
 use Rattle.model.specs.StoreLaws.{appended_room, slotted_appended, fits_appended, removed_at, slotted_removed, fits_removed, fits_few}
@@ -288,7 +288,7 @@ module _ (f : Workflow) where
 
   -- A NODE IS ENTERED
   good_evaluate : (a : Result ℕ NoValue) (s : State) (n i b r : ℕ) (k : ℕ → Move) → Tidies f s → ((x : ℕ) → Good (k x)) → Good (evaluate f a s n i b r k)
-  unfolding evaluate
+  unfolding evaluate without_value
   good_evaluate (Ok x) s n i b r k t h = h x
   good_evaluate (Err (Fault c d)) s n i b r k t h = record { after = (good_terminate s _ t).after }
   good_evaluate (Err Unencodable) s n i b r k t h = record { after = inr refl }

@@ -1,5 +1,5 @@
 -- Records of the same numbers are the same. So a record is read back from its numbers wherever these fit.
-use Rattle.std.specs.Prelude.{◌≡◌, refl, true, ℕ, eqb, length, take, drop}
+use Rattle.std.specs.Prelude.{◌≡◌, refl, true, ℕ, eqb, length, take, drop, Option, Some, None}
 use Rattle.std.proofs.Common.{sym, ap, ◌∙◌, arith, take_at, drop_at}
 use mathlib.Core.List.{List, [], ◌∷◌, ◌++◌, flat_map, append_assoc}
 use Rattle.laws.specs.Bool.{when◌then◌else◌}

@@ -1,5 +1,5 @@
 -- How many numbers each part of an answer has, and parts written one behind the other.
-use Rattle.std.specs.Prelude.{◌≡◌, refl, ℕ, ◌+◌, ◌*◌, ◌≤◌, length, get_or}
+use Rattle.std.specs.Prelude.{◌≡◌, refl, ℕ, ◌+◌, ◌*◌, ◌≤◌, length, get_or, Option, Some, None}
 use Rattle.std.proofs.Common.{◌∙◌, ap, arith, length-append}
 use mathlib.Core.List.{List, [], ◌∷◌, ◌++◌, flat_map, append_assoc, append-nil}
 use Rattle.std.proofs.lemmas.List.{get_or_at}

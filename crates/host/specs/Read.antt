@@ -1,5 +1,5 @@
 -- How the lent numbers of a run record and of a call are read (docs/NUMBERS.md), and which numbers their fields can hold.
-use Rattle.std.specs.Prelude.{Bool, ◌&&◌, List, [], ◌∷◌, ℕ, ◌+◌, ◌%◌, ◌^◌, get_or, ltb, eqb}
+use Rattle.std.specs.Prelude.{Bool, ◌&&◌, List, [], ◌∷◌, ℕ, ◌+◌, ◌%◌, ◌^◌, get_or, ltb, eqb, Option, Some, None}
 use Rattle.laws.specs.Bool.{when◌then◌else◌}
 use Rattle.laws.specs.Rows.{span}
 use Rattle.laws.specs.Every.{every, below}

@@ -1,5 +1,5 @@
 -- How a host reads the numbers of a written answer (docs/NUMBERS.md): as they stand.
-use Rattle.std.specs.Prelude.{List, ℕ, ◌+◌, drop, eqb}
+use Rattle.std.specs.Prelude.{List, ℕ, ◌+◌, drop, eqb, Option, Some, None}
 use Rattle.laws.specs.Bool.{when◌then◌else◌}
 use Rattle.laws.specs.Rows.{span}
 use Rattle.model.specs.declared.answer.ScheduleActivity.{ScheduleActivity}

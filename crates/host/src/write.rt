@@ -232,7 +232,7 @@ fn write_head(out: &mut [u64], at: usize, s: State)
     let result = s.result;
     let output = result.output;
     let first = scalars(s);
-    let kept = error.numbers();
+    let kept = model::kept_numbers(error);
     let ended = output.numbers();
     let count = [s.signal_count as u64];
     write(out, at, &first);

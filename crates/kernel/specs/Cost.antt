@@ -1,5 +1,5 @@
 -- How much may still come: every move leaves fewer microsteps to count. On every sheet, sound or not.
-use Rattle.std.specs.Prelude.{◌≡◌, Bool, ℕ, ◌+◌, ◌*◌, ◌≤◌, ◌<◌, eqb}
+use Rattle.std.specs.Prelude.{◌≡◌, Bool, ℕ, ◌+◌, ◌*◌, ◌≤◌, ◌<◌, eqb, Option, Some, None, Result, Ok, Err}
 use Rattle.std.proofs.Math.Path.{refl, ap}
 use Rattle.std.proofs.Common.{arith, leb-false}
 use Rattle.laws.specs.Bool.{when◌then◌else◌, split, either}
@@ -23,7 +23,7 @@ use Rattle.model.specs.declared.moves.Next.TheVariants.{Rest, Enter, Take, Consu
 use Rattle.model.specs.declared.moves.Move.{Move}
 use Rattle.model.specs.Store.{removed, appended}
 use Rattle.model.specs.StoreLaws.{removed_at, appended_room}
-use Rattle.model.specs.Step.{no_note, no_ending, still, ordering, reading, arrival, terminate, evaluate, schedule, enter_activity, enter_await, enter_complete, arrive, enter, follow_to, route_limited, route, take_by, take, retry}
+use Rattle.model.specs.Step.{no_note, no_ending, still, ordering, reading, arrival, terminate, evaluate, without_value, schedule, enter_activity, enter_await, enter_complete, arrive, enter, follow_to, route_limited, route, take_by, take, retry}
 use Rattle.machine.specs.Events.{not_applicable, resolve_as_complete, complete_invocation, stick, fail_invocation, on_signal, on_success, on_failure, on_unknown, on_result, resolve_as_fail, on_resolved, on_ended, react}
 
 -- The microsteps that may still be counted, by what comes next and how many signals are stored: each of them may be taken, and lead to an entry.
@@ -102,7 +102,7 @@ module _ (f : Workflow) where
   entered_terminate s x = entered_as _ Rest (omega arith)
 
   entered_evaluate : (a : Result ℕ NoValue) (s : State) (n i b r : ℕ) (k : ℕ → Move) → ((x : ℕ) → Entered s.signal_count (k x)) → Entered s.signal_count (evaluate f a s n i b r k)
-  unfolding evaluate terminate
+  unfolding evaluate without_value terminate
   entered_evaluate (Ok x) s n i b r k g = g x
   entered_evaluate (Err (Fault c d)) s n i b r k g = entered_as _ Rest (omega arith)
   entered_evaluate (Err Unencodable) s n i b r k g = entered_as s (Refuse 28) (omega arith)

@@ -22,10 +22,7 @@ use workflow::layout::NUMBERS;
 fn awaits(status: u32, awaited: u32, signal: u32) -> bool
     ensures { result ≡ (eqb status waiting and eqb awaited signal) }
 {
-    if status == code::WAITING {
-        return awaited == signal;
-    }
-    false
+    status == code::WAITING && awaited == signal
 }
 
 // A success without an outcome means ok.
@@ -65,10 +62,7 @@ fn may_retry(w: &[u32; NUMBERS], action: u32, attempt: u32) -> bool
 fn may_retry_failure(w: &[u32; NUMBERS], action: u32, attempt: u32, retryable: bool) -> bool
     ensures { result ≡ (retryable and ltb attempt (policy_of (workflow w.now) action).max_attempts) }
 {
-    if retryable {
-        return may_retry(w, action, attempt);
-    }
-    false
+    retryable && may_retry(w, action, attempt)
 }
 
 // What an effect other than 0 did can't be told without a person.
@@ -308,7 +302,7 @@ pub fn on_ended(event: Event) -> Reaction
     };
     if event.kind == code::SIGNAL_RECEIVED {
         return Reaction::Say {
-            note: note,
+            note,
             ending: Ending {
                 sequence: event.sequence,
                 ending: code::END_IGNORED,
@@ -316,7 +310,7 @@ pub fn on_ended(event: Event) -> Reaction
         };
     }
     Reaction::Say {
-        note: note,
+        note,
         ending: no_ending(),
     }
 }

@@ -53,10 +53,7 @@ fn is_routed(w: &[u32; NUMBERS], node: u32, outcome: u32) -> bool
 fn parks(w: &[u32; NUMBERS], may_park: bool) -> bool
     ensures { result ≡ (may_park and is_0_2 (workflow w.now)) }
 {
-    if may_park {
-        return workflow::is_0_2(w);
-    }
-    false
+    may_park && workflow::is_0_2(w)
 }
 
 // A failure follows route failed; without one, format 2 parks a result's failure as stuck, with its error kept, else the run fails.
@@ -71,9 +68,9 @@ pub fn fail_invocation(
     ensures { (event : Event) → Reacts (workflow w.now) event result (At position invocation) (λ f s _. fail_invocation f s code detail may_park) }
 {
     let error = ErrorInfo {
-        code: code,
+        code,
         node: position.node,
-        detail: detail,
+        detail,
     };
     if is_routed(w, position.node, sheet::FAILED) {
         return Reaction::Route {

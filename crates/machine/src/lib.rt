@@ -5,7 +5,7 @@ pub mod events;
 pub mod invocation;
 pub mod reaction;
 
-ghost use Rattle.std.specs.Prelude.{◌≡◌, max};
+ghost use Rattle.std.specs.Prelude.{◌≡◌};
 ghost use Rattle.workflow.specs.View.{workflow};
 ghost use Rattle.machine.specs.Events.{react, apply};
 ghost use Rattle.machine.specs.ReactionLaws.{Stands, Reacts};
@@ -18,15 +18,6 @@ use model::moves::{Move, Next, no_ending, still};
 use model::{InvocationState, Position, State, code};
 use workflow::code as sheet;
 use workflow::layout::NUMBERS;
-
-fn later(a: u64, b: u64) -> u64
-    ensures { result ≡ max a b }
-{
-    if a < b {
-        return b;
-    }
-    a
-}
 
 // What one event makes of a run that stands so.
 fn react(
@@ -65,8 +56,7 @@ pub fn apply(w: &[u32; NUMBERS], mut s: State, event: Event) -> Move
     ensures { result ≡ apply (workflow w.now) s event }
 {
     s.last_sequence = event.sequence;
-    let later = later(s.last_accepted_at, event.accepted_at);
-    s.last_accepted_at = later;
+    s.last_accepted_at = s.last_accepted_at.max(event.accepted_at);
     let position = s.position;
     let old = s.invocation;
     let reaction = react(w, s.status, position, old, s.signal_count, event);
@@ -76,33 +66,31 @@ pub fn apply(w: &[u32; NUMBERS], mut s: State, event: Event) -> Move
         Reaction::Say { note, ending } => Move {
             state: s,
             next: Next::Rest,
-            note: note,
-            ending: ending,
+            note,
+            ending,
             order: Order::Nothing,
             read: 0,
         },
         Reaction::Route { outcome, output } => {
-            let none = InvocationState::none();
-            s.invocation = none;
+            s.invocation = InvocationState::none();
             s.route(w, outcome, output)
         }
         Reaction::Retry(delay) => s.retry(w, delay),
         Reaction::Park { phase, error, note } => {
-            let parked = InvocationState {
-                phase: phase,
+            s.invocation = InvocationState {
+                phase,
                 node: old.node,
                 visit: old.visit,
                 action: old.action,
                 attempt: old.attempt,
                 input: old.input,
-                error: error,
+                error,
             };
             s.status = code::NEEDS_INTERVENTION;
-            s.invocation = parked;
             Move {
                 state: s,
                 next: Next::Rest,
-                note: note,
+                note,
                 ending: no_ending(),
                 order: Order::Nothing,
                 read: 0,

@@ -1,5 +1,5 @@
 -- Every record that a call hands back fits: each of its numbers is one that its field can hold.
-use Rattle.std.specs.Prelude.{◌≡◌, Bool, List, length, get_or, set}
+use Rattle.std.specs.Prelude.{◌≡◌, Bool, List, length, get_or, set, Option, Some, None, Result, Ok, Err}
 use Rattle.std.proofs.Math.Path.{refl}
 use Rattle.std.proofs.Common.{◌∙◌, length-set}
 use Prim.Native.Nat.{ℕ, zero, suc, ◌+◌, ◌-◌, ◌^◌, ◌<◌, min}
@@ -35,7 +35,7 @@ use Rattle.model.specs.declared.moves.Next.TheVariants.{Rest, Enter, Take, Consu
 use Rattle.model.specs.declared.moves.Move.{Move}
 use Rattle.model.specs.Record.{no_signal, no_visits, no_streak, no_node_result, no_position, no_invocation, fresh, visits_of, streak_of, set_signals, set_visits, set_streaks, set_results, seen, placed, finished}
 use Rattle.model.specs.Store.{listed, stored, signal_at, removed, appended, emptied}
-use Rattle.model.specs.Step.{no_mapping, answer, signal_outcome, streak_count, one_more_visit, phased, arrival, error, terminate, evaluate, schedule, enter_activity, enter_await, enter_complete, arrive, enter, follow_to, route_limited, route, take_by, retry}
+use Rattle.model.specs.Step.{no_mapping, answer, signal_outcome, streak_count, one_more_visit, phased, arrival, error, terminate, evaluate, without_value, schedule, enter_activity, enter_await, enter_complete, arrive, enter, follow_to, route_limited, route, take_by, retry}
 use Rattle.machine.specs.Events.{success_outcome, not_applicable, stick, on_ended, complete_invocation, fail_invocation, on_signal, on_success, on_failure, on_unknown, on_result, resolve_as_complete, resolve_as_fail, on_resolved, react}
 use Rattle.kernel.specs.declared.Limits.{Limits}
 use Rattle.kernel.specs.declared.Call.{Call}
@@ -265,7 +265,7 @@ module _ (f : Workflow) (its : Sheet f) where
       name = omega (arith, inside)
 
       good_evaluate : (a : Result ℕ NoValue) (s : State) (i b r : ℕ) (k : ℕ → Move) → EvaluatedFits a → Fits s → ((x : ℕ) → Number x → Good (k x)) → Good (evaluate f a s n i b r k)
-      unfolding evaluate
+      unfolding evaluate without_value
       good_evaluate (Ok x) s i b r k a t h = h x a
       good_evaluate (Err (Fault c d)) s i b r k a t h = good_terminate s (error c n d) (record { code = a.0; node = name; detail = a.1 }) t
       good_evaluate (Err Unencodable) s i b r k a t h = t

@@ -1,5 +1,5 @@
 -- The run check: `consistent` and `owned_by` of snapshot.rs, and what document 01 adds.
-use Rattle.std.specs.Prelude.{Bool, true, false, not, ℕ, get_or, ltb, leb, eqb}
+use Rattle.std.specs.Prelude.{Bool, true, false, not, ℕ, get_or, ltb, leb, eqb, Option, Some, None}
 use Rattle.laws.specs.Bool.{when◌then◌else◌, ◌and◌, ◌or◌}
 use Rattle.laws.specs.Every.{below}
 use Rattle.workflow.specs.Code.{none, activity, await_signal}

@@ -20,11 +20,7 @@ use workflow::{Found, Node, code as sheet};
 fn result_unused(x: Output) -> bool
     ensures { result ≡ result_unused x }
 {
-    match x {
-        Output::Nothing => true,
-        Output::Handle(_) => false,
-        Output::Error(_) => false,
-    }
+    matches!(x, Output::Nothing)
 }
 
 fn result_zero(x: NodeResult) -> bool
@@ -192,15 +188,13 @@ fn stands(w: &[u32; NUMBERS], s: State) -> bool
 fn slots_fit(w: &[u32; NUMBERS], s: State) -> bool
     ensures { result ≡ slots_fit (workflow w.now) s }
 {
-    let mut n: usize = 0;
-    while n < NODES {
+    for n in 0..NODES {
         let visits = s.visits[n];
         let result = s.results[n];
         let streak = s.streaks[n];
         if !node_fits(w, n as u32, visits, result, streak) {
             return false;
         }
-        n += 1;
     }
     true
 }

@@ -1,11 +1,11 @@
 use Rattle.laws.specs.Bool.{◌and◌}
-use borrow.Author.Tests.{eq-eqb, ne_eqb}
+use borrow.Author.Tests.{ne_eqb}
 use Rattle.machine.proofs.events.awaits.Goals as goal
 
 pub returns-then-status-eq-WAITING : goal.returns-then-status-eq-WAITING
 unfolding ◌and◌
-returns-then-status-eq-WAITING c = simp (eq-eqb _ _ c.if-status-eq-WAITING.true)
+returns-then-status-eq-WAITING c = let e = c.if-status-eq-WAITING.true in rw e
 
-pub returns : goal.returns
+pub returns-else-status-eq-WAITING : goal.returns-else-status-eq-WAITING
 unfolding ◌and◌
-returns c = simp (ne_eqb _ _ c.if-status-eq-WAITING.false)
+returns-else-status-eq-WAITING c = simp (ne_eqb _ _ c.if-status-eq-WAITING.false)

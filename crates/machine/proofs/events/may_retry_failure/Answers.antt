@@ -5,6 +5,6 @@ pub returns-then-retryable : goal.returns-then-retryable
 unfolding ◌and◌
 returns-then-retryable c = simp (c.if-retryable.true, ← c.may_retry.ensures)
 
-pub returns : goal.returns
+pub returns-else-retryable : goal.returns-else-retryable
 unfolding ◌and◌
-returns c = simp c.if-retryable.false
+returns-else-retryable c = simp c.if-retryable.false

@@ -5,6 +5,6 @@ pub returns-then-may_park : goal.returns-then-may_park
 unfolding ◌and◌
 returns-then-may_park c = simp (c.if-may_park.true, ← c.is_0_2.ensures)
 
-pub returns : goal.returns
+pub returns-else-may_park : goal.returns-else-may_park
 unfolding ◌and◌
-returns c = simp c.if-may_park.false
+returns-else-may_park c = simp c.if-may_park.false
