@@ -13,7 +13,7 @@ use crate::invocation::{applies, fail_invocation, named, named_node};
 use crate::reaction::Reaction;
 use model::answer::{Ending, Note};
 use model::event::Event;
-use model::moves::{Next, no_ending};
+use model::moves::Next;
 use model::{BufferedSignal, InvocationState, Output, Position, State, code};
 use workflow::code as sheet;
 use workflow::layout::NUMBERS;
@@ -109,10 +109,10 @@ pub fn on_signal(
                 b: 0,
                 c: 0,
             },
-            ending: Ending {
+            ending: Some(Ending {
                 sequence: event.sequence,
                 ending: code::END_OVERFLOW,
-            },
+            }),
         };
     }
     Reaction::Store
@@ -211,7 +211,7 @@ pub fn on_result(
             b: event.visit,
             c: event.attempt,
         },
-        ending: no_ending(),
+        ending: None,
     }
 }
 
@@ -227,7 +227,7 @@ fn not_applicable(invocation: InvocationState, event: Event, reason: u32) -> Rea
             b: event.visit,
             c: reason,
         },
-        ending: no_ending(),
+        ending: None,
     }
 }
 
@@ -303,14 +303,14 @@ pub fn on_ended(event: Event) -> Reaction
     if event.kind == code::SIGNAL_RECEIVED {
         return Reaction::Say {
             note,
-            ending: Ending {
+            ending: Some(Ending {
                 sequence: event.sequence,
                 ending: code::END_IGNORED,
-            },
+            }),
         };
     }
     Reaction::Say {
         note,
-        ending: no_ending(),
+        ending: None,
     }
 }

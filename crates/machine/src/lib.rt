@@ -12,9 +12,8 @@ ghost use Rattle.machine.specs.ReactionLaws.{Stands, Reacts};
 
 use crate::events::{arrival, on_ended, on_resolved, on_result, on_signal};
 use crate::reaction::Reaction;
-use model::answer::Order;
 use model::event::Event;
-use model::moves::{Move, Next, no_ending, still};
+use model::moves::{Move, Next, still};
 use model::{InvocationState, Position, State, code};
 use workflow::code as sheet;
 use workflow::layout::NUMBERS;
@@ -66,9 +65,9 @@ pub fn apply(w: &[u32; NUMBERS], mut s: State, event: Event) -> Move
         Reaction::Say { note, ending } => Move {
             state: s,
             next: Next::Rest,
-            note,
+            note: Some(note),
             ending,
-            order: Order::Nothing,
+            order: None,
             read: 0,
         },
         Reaction::Route { outcome, output } => {
@@ -90,9 +89,9 @@ pub fn apply(w: &[u32; NUMBERS], mut s: State, event: Event) -> Move
             Move {
                 state: s,
                 next: Next::Rest,
-                note,
-                ending: no_ending(),
-                order: Order::Nothing,
+                note: Some(note),
+                ending: None,
+                order: None,
                 read: 0,
             }
         }

@@ -9,8 +9,8 @@ pub enum Reaction {
     Pass(Next),
     // the arrival is stored
     Store,
-    // only a note and an ending
-    Say { note: Note, ending: Ending },
+    // only a note, and an ending where a signal ends
+    Say { note: Note, ending: Option<Ending> },
     // the invocation is over, and its node routes
     Route { outcome: u32, output: Output },
     // the next attempt is ordered, after a delay

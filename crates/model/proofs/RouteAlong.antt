@@ -1,5 +1,5 @@
 -- A node that is there routes: what the code works out one by one is the move.
-use Rattle.std.specs.Prelude.{◌≡◌, Some, Bool}
+use Rattle.std.specs.Prelude.{◌≡◌, Option, Some, None, Bool}
 use Rattle.std.proofs.Math.Bool.{true, false}
 use Prim.Native.Nat.{ℕ, ◌+◌, ◌<◌}
 use native.Mathlib.Omega.{arith}
@@ -34,7 +34,7 @@ module _ (f : Workflow) (s : State) (n o : ℕ) where
   route_along Nothing = follow_on f (with_streak s n no_streak) n (route_of f n o)
   route_along (At x) = either_way (leb x (streak_count (streak_of s n) o)) x (record { outcome = o; count = streak_count (streak_of s n) o + 1 })
 
-module _ (f : Workflow) (p : Position) (k : Streak) (o : ℕ) (x : Output) (e : Ending) where
+module _ (f : Workflow) (p : Position) (k : Streak) (o : ℕ) (x : Output) (e : Option Ending) where
   pub routes : {m : ℕ} {l t : Found} {y : Routing} {n : Next} → m ≡ node_slots f → p.node < m → l ≡ limit_of f p.node o → y ≡ routing_of l k p.node o → t ≡ route_of f p.node y.outcome → n ≡ next_of t p.node
       → Makes p k (record { stored = Some (record { result = record { visit = p.visit; outcome = o; output = x }; streak = y.streak }); next = n; note = y.note; ending = e }) (λ s. ends e (route f s o x))
   unfolding route stored_by when◌then◌else◌
@@ -43,7 +43,7 @@ module _ (f : Workflow) (p : Position) (k : Streak) (o : ℕ) (x : Output) (e : 
       record { inside = λ _ _. omega arith; of_record = λ s a b. rw a (simp (past, route_along, b, en, et, ey, el)) }
 
 -- Routing says no ending.
-pub unended : (f : Workflow) (s : State) (o : ℕ) (x : Output) → ends no_ending (route f s o x) ≡ route f s o x
+pub unended : (f : Workflow) (s : State) (o : ℕ) (x : Output) → ends None (route f s o x) ≡ route f s o x
 unfolding route when◌then◌else◌
 unended f s o x =
     split (leb (node_slots f) s.position.node) (λ h. rw h)

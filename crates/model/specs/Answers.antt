@@ -21,11 +21,11 @@ params_numbers None = 0 ∷ 0 ∷ []
 params_numbers (Some handle) = 1 ∷ handle ∷ []
 
 -- The order: none, a schedule, a retry; then node, visit, action, attempt, not before, input, params.
-unfoldable pub order_numbers : Order → List ℕ
-order_numbers Order.Nothing = 0 ∷ 0 ∷ 0 ∷ 0 ∷ 0 ∷ 0 ∷ 0 ∷ 0 ∷ 0 ∷ []
-order_numbers (Order.Schedule schedule) =
+unfoldable pub order_numbers : Option Order → List ℕ
+order_numbers None = 0 ∷ 0 ∷ 0 ∷ 0 ∷ 0 ∷ 0 ∷ 0 ∷ 0 ∷ 0 ∷ []
+order_numbers (Some (Order.Schedule schedule)) =
     1 ∷ schedule.node ∷ schedule.visit ∷ schedule.action ∷ schedule.attempt ∷ schedule.not_before ∷ schedule.input ∷ params_numbers schedule.params
-order_numbers (Order.Retry retry) = 2 ∷ retry.node ∷ retry.visit ∷ 0 ∷ retry.attempt ∷ retry.not_before ∷ 0 ∷ 0 ∷ 0 ∷ []
+order_numbers (Some (Order.Retry retry)) = 2 ∷ retry.node ∷ retry.visit ∷ 0 ∷ retry.attempt ∷ retry.not_before ∷ 0 ∷ 0 ∷ 0 ∷ []
 
 -- The answer: a next record, with microsteps and order; a want, with node, field and the node come from; a refusal, with number and item.
 unfoldable pub answer_numbers : Answer → List ℕ

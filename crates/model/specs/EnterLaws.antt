@@ -1,5 +1,5 @@
 -- Entering a node: what an entry makes of a record, and each branch of the rules as the code comes to it.
-use Rattle.std.specs.Prelude.{◌≡◌, Option, Some, Result, Ok, Err, Bool, true, false, [], ◌∷◌, ℕ, ◌+◌, ◌≤◌, ◌<◌, length}
+use Rattle.std.specs.Prelude.{◌≡◌, Option, Some, None, Result, Ok, Err, Bool, true, false, [], ◌∷◌, ℕ, ◌+◌, ◌≤◌, ◌<◌, length}
 use Rattle.std.proofs.Math.Path.{refl, sym, ap}
 use Rattle.std.proofs.Common.{◌∙◌, arith, get_or-set_same}
 use Rattle.std.proofs.lemmas.Bool.{false≢true}
@@ -15,8 +15,6 @@ use Rattle.model.specs.Code.{field_params, visits_exceeded, activations_exceeded
 use Rattle.model.specs.declared.Output.{Output}
 use Rattle.model.specs.declared.Visits.{Visits}
 use Rattle.model.specs.declared.State.{State}
-use Rattle.model.specs.declared.answer.Note.{Note}
-use Rattle.model.specs.declared.answer.Ending.{Ending}
 use Rattle.model.specs.declared.event.Mappings.{Mappings}
 use Rattle.model.specs.declared.event.NoValue.{NoValue}
 use Rattle.model.specs.declared.enter.Entry.{Entry}
@@ -26,7 +24,7 @@ use Rattle.model.specs.declared.moves.Next.{Next}
 use Rattle.model.specs.declared.moves.Next.TheVariants.{Rest, Enter, Take, Consume, Wants, Refuse}
 use Rattle.model.specs.declared.moves.Move.{Move}
 use Rattle.model.specs.Record.{no_visits, visits_of, with_visits, placed, finished}
-use Rattle.model.specs.Step.{no_note, no_ending, still, reading, error, one_more_visit, answer, terminate, without_value, evaluate, schedule, arrive, enter}
+use Rattle.model.specs.Step.{still, reading, error, one_more_visit, answer, terminate, without_value, evaluate, schedule, arrive, enter}
 
 -- WHAT AN ENTRY MAKES OF A RECORD. Where the run stands, and its result.
 abbrev pub settled : State → Standing → State
@@ -40,8 +38,8 @@ made s e =
     record {
       state = settled s e.standing;
       next = e.next;
-      note = no_note;
-      ending = no_ending;
+      note = None;
+      ending = None;
       order = e.order;
       read = e.read;
     }
@@ -190,7 +188,7 @@ module _ {s : State} {n v a t : ℕ} (e : Entry) (given : Uncounted s n v a t) w
   counted_none h g = g ∙ sym (if_false _ _ _ h)
 
 -- What is stored step by step is what the entry makes.
-pub stores : (s : State) (n : ℕ) (e : Entry) {x y : State} {p : Note} {q : Ending} → x ≡ counted s n e → y ≡ settled x e.standing → p ≡ no_note → q ≡ no_ending →
-    record { state = y; next = e.next; note = p; ending = q; order = e.order; read = e.read } ≡ made (counted s n e) e
+pub stores : (s : State) (n : ℕ) (e : Entry) {x y : State} → x ≡ counted s n e → y ≡ settled x e.standing →
+    record { state = y; next = e.next; note = None; ending = None; order = e.order; read = e.read } ≡ made (counted s n e) e
 unfolding made
-stores s n e hx hy hp hq = rw (hy, hx, hp, hq)
+stores s n e hx hy = rw (hy, hx)

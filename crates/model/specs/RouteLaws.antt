@@ -41,10 +41,10 @@ use Rattle.model.specs.Step.{planned, phased, retry, signal_outcome, streak_coun
 
 -- The outcome that is followed, the next streak and the note.
 abbrev pub exhausts : (node outcome limit : ℕ) → Routing
-exhausts n o x = record { streak = no_streak; outcome = exhausted; note = record { code = note_exhausted; node = n; a = o; b = x; c = 0 } }
+exhausts n o x = record { streak = no_streak; outcome = exhausted; note = Some (record { code = note_exhausted; node = n; a = o; b = x; c = 0 }) }
 
 abbrev pub goes_on : (outcome : ℕ) → Streak → Routing
-goes_on o k = record { streak = k; outcome = o; note = no_note }
+goes_on o k = record { streak = k; outcome = o; note = None }
 
 unfoldable pub routing_of : Found → Streak → (node outcome : ℕ) → Routing
 routing_of Nothing k n o = goes_on o no_streak
@@ -58,7 +58,7 @@ next_of Nothing n = Refuse invariant
 module _ (f : Workflow) (s : State) (n : ℕ) where
   -- The move that routes.
   abbrev pub along : Routing → Move
-  along y = record { state = with_streak s n y.streak; next = next_of (route_of f n y.outcome) n; note = y.note; ending = no_ending; order = Order.Nothing; read = 0 }
+  along y = record { state = with_streak s n y.streak; next = next_of (route_of f n y.outcome) n; note = y.note; ending = None; order = None; read = 0 }
 
   pub follow_on : (x : Found) → follow_to f s n x ≡ still s (next_of x n)
   unfolding follow_to next_of
@@ -70,49 +70,41 @@ unfoldable pub stored_by : State → (node : ℕ) → Option Stored → State
 stored_by s n (Some x) = with_streak (with_result s n x.result) n x.streak
 stored_by s n None = s
 
-pub kept : (s : State) (n : ℕ) {o : Option Stored} {x : Stored} → o ≡ Some x → with_streak (with_result s n x.result) n x.streak ≡ stored_by s n o
-unfolding stored_by
-kept s n e = rw e
-
-pub none_kept : (s : State) (n : ℕ) {o : Option Stored} → o ≡ None → s ≡ stored_by s n o
-unfolding stored_by
-none_kept s n e = rw e
-
 abbrev pub made : State → Routed → Move
-made s r = record { state = stored_by s s.position.node r.stored; next = r.next; note = r.note; ending = r.ending; order = Order.Nothing; read = 0 }
+made s r = record { state = stored_by s s.position.node r.stored; next = r.next; note = r.note; ending = r.ending; order = None; read = 0 }
 
 -- Of every record that stands at that position with that streak it makes this move; and where something is stored, the node has its slot.
 pub record Makes (p : Position) (k : Streak) (r : Routed) (m : State → Move) : Type 0 where
   pub inside : (x : Stored) → r.stored ≡ Some x → p.node < 64
   pub of_record : (s : State) → s.position ≡ p → streak_of s p.node ≡ k → made s r ≡ m s
 
-unfoldable pub unstored : Next → Note → Ending → Routed
+unfoldable pub unstored : Next → Option Note → Option Ending → Routed
 unstored n t e = record { stored = None; next = n; note = t; ending = e }
 
 -- The same move with this ending.
-abbrev pub ends : Ending → Move → Move
-ends e m = ending e.sequence e.ending m
+abbrev pub ends : Option Ending → Move → Move
+ends e m = record { state = m.state; next = m.next; note = m.note; ending = e; order = m.order; read = m.read }
 
 -- Nothing is stored: the record stays.
-pub unstored_makes : (p : Position) (k : Streak) (n : Next) (t : Note) (e : Ending) (m : State → Move) {r : Routed} → r ≡ unstored n t e
-    → ((s : State) → s.position ≡ p → record { state = s; next = n; note = t; ending = e; order = Order.Nothing; read = 0 } ≡ m s) → Makes p k r m
+pub unstored_makes : (p : Position) (k : Streak) (n : Next) (t : Option Note) (e : Option Ending) (m : State → Move) {r : Routed} → r ≡ unstored n t e
+    → ((s : State) → s.position ≡ p → record { state = s; next = n; note = t; ending = e; order = None; read = 0 } ≡ m s) → Makes p k r m
 unfolding unstored stored_by
 unstored_makes p k n t e m h g = record { inside = λ x z. let y : ◌≡◌ {A = Option Stored} None (Some x) = rw h at z in cc; of_record = λ s a b. rw h (g s a) }
 
 -- A node that lacks a slot goes astray.
-module _ (f : Workflow) (p : Position) (k : Streak) (o : ℕ) (x : Output) (e : Ending) where
-  pub strays : {m : ℕ} {r : Routed} → m ≡ node_slots f → m ≤ p.node → r ≡ unstored (Refuse invariant) no_note e → Makes p k r (λ s. ends e (route f s o x))
+module _ (f : Workflow) (p : Position) (k : Streak) (o : ℕ) (x : Output) (e : Option Ending) where
+  pub strays : {m : ℕ} {r : Routed} → m ≡ node_slots f → m ≤ p.node → r ≡ unstored (Refuse invariant) None e → Makes p k r (λ s. ends e (route f s o x))
   unfolding route when◌then◌else◌
   strays em le h = unstored_makes p k _ _ _ _ h (λ s a. rw a (simp (← em, le-leb _ _ le)))
 
 -- A signal that is taken: o is its outcome, v the route of that.
 module _ (f : Workflow) (p : Position) (k : Streak) (x : BufferedSignal) (m : Next) {o : ℕ} {v : Found} {r : Routed} (outcome : o ≡ signal_outcome x.outcome) (found : v ≡ signal_route f p.node o) where
-  pub misses : v ≡ Nothing → r ≡ unstored m (record { code = note_unrouted; node = p.node; a = x.event_id; b = o; c = 0 }) (record { sequence = x.sequence; ending = end_unrouted })
+  pub misses : v ≡ Nothing → r ≡ unstored m (Some (record { code = note_unrouted; node = p.node; a = x.event_id; b = o; c = 0 })) (Some (record { sequence = x.sequence; ending = end_unrouted }))
       → Makes p k r (λ s. take f s x m)
   unfolding take_by
   misses z h = unstored_makes p k _ _ _ _ h (λ s a. rw a (simp (← outcome, ← found, z)))
 
-  pub takes : {t : ℕ} → v ≡ At t → Makes p k r (λ s. ends (record { sequence = x.sequence; ending = end_routed }) (route f s o (Output.Handle x.«data»))) → Makes p k r (λ s. take f s x m)
+  pub takes : {t : ℕ} → v ≡ At t → Makes p k r (λ s. ends (Some (record { sequence = x.sequence; ending = end_routed })) (route f s o (Output.Handle x.«data»))) → Makes p k r (λ s. take f s x m)
   unfolding take_by
   takes z h = record { inside = h.inside; of_record = λ s a b. h.of_record s a b ∙ sym (simp (a, ← outcome, ← found, z)) }
 
@@ -222,7 +214,7 @@ not_above a n e h = ltb-false a n (sym e ∙ h)
 
 -- WHAT THE NEXT ATTEMPT MAKES of a record.
 unfoldable pub tried : State → Option Attempt → Move
-tried s (Some r) = record { state = placed s running s.position r.invocation; next = Rest; note = r.note; ending = no_ending; order = r.order; read = 0 }
+tried s (Some r) = record { state = placed s running s.position r.invocation; next = Rest; note = Some r.note; ending = None; order = Some r.order; read = 0 }
 tried s None = still s (Refuse no_retry)
 
 -- Of every record that stands there with that invocation and time it makes this move.

@@ -27,23 +27,24 @@ use Rattle.model.specs.declared.moves.Next.TheVariants.{Rest, Enter, Consume, Wa
 use Rattle.model.specs.declared.moves.Move.{Move}
 use Rattle.model.specs.Record.{no_streak, no_invocation, visits_of, streak_of, with_visits, with_streak, with_result, placed, finished}
 
--- WHAT A MOVE SAYS.
+-- What fills up a list of notes, and one of endings.
 abbrev pub no_note : Note
 no_note = record { code = 0; node = 0; a = 0; b = 0; c = 0 }
 
 abbrev pub no_ending : Ending
 no_ending = record { sequence = 0; ending = 0 }
 
+-- WHAT A MOVE SAYS.
 -- nothing but the record and what comes next
 abbrev pub still : State → Next → Move
-still state next = record { state = state; next = next; note = no_note; ending = no_ending; order = Order.Nothing; read = 0 }
+still state next = record { state = state; next = next; note = None; ending = None; order = None; read = 0 }
 
 abbrev pub noting : (code node a b c : ℕ) → Move → Move
 noting code node a b c move =
     record {
       state = move.state;
       next = move.next;
-      note = record { code = code; node = node; a = a; b = b; c = c };
+      note = Some (record { code = code; node = node; a = a; b = b; c = c });
       ending = move.ending;
       order = move.order;
       read = move.read;
@@ -55,13 +56,13 @@ ending sequence kind move =
       state = move.state;
       next = move.next;
       note = move.note;
-      ending = record { sequence = sequence; ending = kind };
+      ending = Some (record { sequence = sequence; ending = kind });
       order = move.order;
       read = move.read;
     }
 
 abbrev pub ordering : Order → Move → Move
-ordering order move = record { state = move.state; next = move.next; note = move.note; ending = move.ending; order = order; read = move.read }
+ordering order move = record { state = move.state; next = move.next; note = move.note; ending = move.ending; order = Some order; read = move.read }
 
 abbrev pub reading : (read : ℕ) → Move → Move
 reading read move = record { state = move.state; next = move.next; note = move.note; ending = move.ending; order = move.order; read = read }

@@ -22,10 +22,9 @@ pub struct RetryActivity {
     pub attempt: u32,
 }
 
-// The command of a call, if there is one.
+// The command of a call.
 #[derive(Clone, Copy)]
 pub enum Order {
-    Nothing,
     Schedule(ScheduleActivity),
     Retry(RetryActivity),
 }
@@ -49,7 +48,10 @@ pub struct Ending {
 // One of three: a next record with its order and microsteps; a want of one mapping value; a refusal.
 #[derive(Clone, Copy)]
 pub enum Answer {
-    Next { order: Order, microsteps: u32 },
+    Next {
+        order: Option<Order>,
+        microsteps: u32,
+    },
     Wants { node: u32, field: u32, from: u32 },
     Refused { number: u32, item: u32 },
 }
@@ -66,10 +68,9 @@ pub fn params_numbers(params: Option<u32>) -> [u64; 2]
 
 impl Order {
     pub fn numbers(self) -> [u64; 9]
-        ensures { result ≡ order_numbers self }
+        ensures { result ≡ order_numbers (Some self) }
     {
         match self {
-            Order::Nothing => [0; 9],
             Order::Schedule(x) => {
                 let params = params_numbers(x.params);
                 [
@@ -99,13 +100,23 @@ impl Order {
     }
 }
 
+// The numbers of a call's order, if there is one.
+pub fn order_numbers(order: Option<Order>) -> [u64; 9]
+    ensures { result ≡ order_numbers order }
+{
+    match order {
+        None => [0; 9],
+        Some(x) => x.numbers(),
+    }
+}
+
 impl Answer {
     pub fn numbers(self) -> [u64; 11]
         ensures { result ≡ answer_numbers self }
     {
         match self {
             Answer::Next { order, microsteps } => {
-                let o = order.numbers();
+                let o = order_numbers(order);
                 [
                     1,
                     u64::from(microsteps),

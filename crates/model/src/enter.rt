@@ -3,11 +3,11 @@ ghost use Rattle.std.specs.Prelude.{◌≡◌, true, ◌+◌, ◌<◌};
 ghost use Rattle.workflow.specs.View.{Workflow, workflow};
 ghost use Rattle.model.specs.Record.{visits_of, finished};
 ghost use Rattle.model.specs.Step.{still, reading, error, answer, terminate, without_value, schedule, enter_activity, enter_await, enter_complete, arrive, enter};
-ghost use Rattle.model.specs.EnterLaws.{enter_with_params, made, Shows, counted, Uncounted, Room, destination, entering};
+ghost use Rattle.model.specs.EnterLaws.{enter_with_params, settled, made, Shows, counted, Uncounted, Room, destination, entering};
 
 use crate::answer::{Order, ScheduleActivity};
 use crate::event::{Mappings, NoValue};
-use crate::moves::{Move, Next, no_ending, no_note, still};
+use crate::moves::{Move, Next, still};
 use crate::time::planned;
 use crate::{ErrorInfo, InvocationState, Output, Position, RunResult, State, Visits, code};
 use workflow::code as sheet;
@@ -67,7 +67,7 @@ struct Entry {
     entered: bool,
     standing: Standing,
     next: Next,
-    order: Order,
+    order: Option<Order>,
     read: u32,
 }
 
@@ -80,7 +80,7 @@ fn staying(entered: bool, next: Next) -> Entry
         entered,
         standing: Standing::Unmoved,
         next,
-        order: Order::Nothing,
+        order: None,
         read: 0,
     }
 }
@@ -94,7 +94,7 @@ fn finishing(entered: bool, status: u32, output: Output, read: u32) -> Entry
         entered,
         standing: Standing::Finished { status, output },
         next: Next::Rest,
-        order: Order::Nothing,
+        order: None,
         read,
     }
 }
@@ -170,7 +170,7 @@ impl Entering {
                 invocation,
             },
             next: Next::Rest,
-            order: Order::Schedule(ordered),
+            order: Some(Order::Schedule(ordered)),
             read,
         }
     }
@@ -227,7 +227,7 @@ impl Entering {
                 invocation: InvocationState::none(),
             },
             next: Next::Consume,
-            order: Order::Nothing,
+            order: None,
             read: 0,
         }
     }
@@ -317,6 +317,25 @@ fn destination(next: Next) -> u32
 }
 
 impl State {
+    // The run stands where an entry leaves it.
+    fn settle(&mut self, standing: Standing)
+        ensures { self.new ≡ settled self.old standing }
+    {
+        match standing {
+            Standing::Unmoved => {}
+            Standing::Placed {
+                status,
+                position,
+                invocation,
+            } => {
+                self.status = status;
+                self.position = position;
+                self.invocation = invocation;
+            }
+            Standing::Finished { status, output } => self.finish(status, RunResult { output }),
+        }
+    }
+
     // The run fails.
     pub fn terminate(mut self, w: &[u32; NUMBERS], error: ErrorInfo) -> Move
         ensures { result ≡ terminate (workflow w.now) self error }
@@ -349,26 +368,12 @@ impl State {
             self.visits[n] = Visits { count: visit };
             self.activations = activations;
         }
-        match e.standing {
-            Standing::Unmoved => {}
-            Standing::Placed {
-                status,
-                position,
-                invocation,
-            } => {
-                self.status = status;
-                self.position = position;
-                self.invocation = invocation;
-            }
-            Standing::Finished { status, output } => {
-                self = self.finished(status, RunResult { output });
-            }
-        }
+        self.settle(e.standing);
         Move {
             state: self,
             next: e.next,
-            note: no_note(),
-            ending: no_ending(),
+            note: None,
+            ending: None,
             order: e.order,
             read: e.read,
         }

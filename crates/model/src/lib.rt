@@ -246,13 +246,19 @@ impl State {
     }
 
     // The run ends.
-    pub fn finished(mut self, status: u32, res: RunResult) -> State
-        ensures { result ≡ finished self status res }
+    pub(crate) fn finish(&mut self, status: u32, res: RunResult)
+        ensures { self.new ≡ finished self.old status res }
     {
         self.status = status;
         self.position = Position::none();
         self.invocation = InvocationState::none();
         self.result = res;
+    }
+
+    pub fn finished(mut self, status: u32, res: RunResult) -> State
+        ensures { result ≡ finished self status res }
+    {
+        self.finish(status, res);
         self
     }
 }

@@ -6,7 +6,7 @@ ghost use Rattle.model.specs.Step.{planned, retry};
 ghost use Rattle.model.specs.RouteLaws.{Tries};
 
 use crate::answer::{Note, Order, RetryActivity};
-use crate::moves::{Move, Next, no_ending, still};
+use crate::moves::{Move, Next, still};
 use crate::time::planned;
 use crate::{InvocationState, Position, State, code};
 use workflow::layout::NUMBERS;
@@ -92,9 +92,9 @@ impl State {
         Move {
             state: self,
             next: Next::Rest,
-            note: next.note,
-            ending: no_ending(),
-            order: next.order,
+            note: Some(next.note),
+            ending: None,
+            order: Some(next.order),
             read: 0,
         }
     }

@@ -1,14 +1,15 @@
 // The moves that route a node's outcome and take a signal.
-ghost use Rattle.std.specs.Prelude.{◌≡◌, eqb};
+ghost use Rattle.std.specs.Prelude.{◌≡◌, ℕ, ◌<◌, Some, eqb};
 ghost use Rattle.laws.specs.Bool.{◌and◌};
 ghost use Rattle.workflow.specs.View.{workflow};
 ghost use Rattle.workflow.specs.Code.{exhausted};
 ghost use Rattle.workflow.specs.Lookup.{is_0_2};
+ghost use Rattle.model.specs.declared.route.Stored.{Stored};
 ghost use Rattle.model.specs.Step.{streak_count, signal_outcome, signal_route, route, take};
-ghost use Rattle.model.specs.RouteLaws.{routing_of, next_of, unstored, Makes, ends, taken_by, taking};
+ghost use Rattle.model.specs.RouteLaws.{routing_of, next_of, stored_by, unstored, Makes, ends, taken_by, taking};
 
-use crate::answer::{Ending, Note, Order};
-use crate::moves::{Move, Next, no_ending, no_note};
+use crate::answer::{Ending, Note};
+use crate::moves::{Move, Next};
 use crate::{BufferedSignal, NodeResult, Output, Position, State, Streak, code};
 use workflow::layout::{NODES, NUMBERS};
 use workflow::{Found, code as sheet};
@@ -18,7 +19,7 @@ use workflow::{Found, code as sheet};
 struct Routing {
     streak: Streak,
     outcome: u32,
-    note: Note,
+    note: Option<Note>,
 }
 
 // How often in a row the outcome was routed: a streak of another outcome counts 0.
@@ -39,7 +40,7 @@ fn routing_of(limit: Found, streak: Streak, node: u32, outcome: u32) -> Routing
         return Routing {
             streak: Streak::none(),
             outcome,
-            note: no_note(),
+            note: None,
         };
     };
     let count = streak_count(streak, outcome);
@@ -47,13 +48,13 @@ fn routing_of(limit: Found, streak: Streak, node: u32, outcome: u32) -> Routing
         return Routing {
             streak: Streak::none(),
             outcome: sheet::EXHAUSTED,
-            note: Note {
+            note: Some(Note {
                 code: code::NOTE_EXHAUSTED,
                 node,
                 a: outcome,
                 b: most,
                 c: 0,
-            },
+            }),
         };
     }
     Routing {
@@ -62,7 +63,7 @@ fn routing_of(limit: Found, streak: Streak, node: u32, outcome: u32) -> Routing
             count: count + 1,
         },
         outcome,
-        note: no_note(),
+        note: None,
     }
 }
 
@@ -118,12 +119,12 @@ struct Stored {
 struct Routed {
     stored: Option<Stored>,
     next: Next,
-    note: Note,
-    ending: Ending,
+    note: Option<Note>,
+    ending: Option<Ending>,
 }
 
 // Nothing is stored.
-fn unstored(next: Next, note: Note, ending: Ending) -> Routed
+fn unstored(next: Next, note: Option<Note>, ending: Option<Ending>) -> Routed
     ensures { result ≡ unstored next note ending }
 {
     Routed {
@@ -141,14 +142,14 @@ fn routed_from(
     streak: Streak,
     outcome: u32,
     output: Output,
-    ending: Ending,
+    ending: Option<Ending>,
 ) -> Routed
     ensures { Makes position streak result (λ s. ends ending (route (workflow w.now) s outcome output)) }
 {
     let node = position.node;
     let n = node as usize;
     if workflow::capped(w[workflow::layout::NODE_COUNT], NODES) <= n {
-        return unstored(Next::Refuse(code::INVARIANT), no_note(), ending);
+        return unstored(Next::Refuse(code::INVARIANT), None, ending);
     }
     let limit = workflow::find_limit(w, node, outcome);
     let routing = routing_of(limit, streak, node, outcome);
@@ -190,7 +191,7 @@ fn taken(
             sequence: signal.sequence,
             ending: code::END_UNROUTED,
         };
-        return unstored(missed, note, ending);
+        return unstored(missed, Some(note), Some(ending));
     };
     let ending = Ending {
         sequence: signal.sequence,
@@ -202,7 +203,7 @@ fn taken(
         streak,
         outcome,
         Output::Handle(signal.data),
-        ending,
+        Some(ending),
     )
 }
 
@@ -221,31 +222,39 @@ fn taken_by(
         Next::Take => taken(w, position, streak, arrived, Next::Rest),
         Next::Consume => match found {
             Some(signal) => taken(w, position, streak, signal, Next::Consume),
-            None => unstored(Next::Rest, no_note(), no_ending()),
+            None => unstored(Next::Rest, None, None),
         },
-        _ => unstored(next, no_note(), no_ending()),
+        _ => unstored(next, None, None),
     }
 }
 
 impl State {
+    // What routing stores at its node, if something.
+    fn store(&mut self, node: u32, stored: Option<Stored>)
+        requires { (kept : Stored) → stored ≡ Some kept → node < 64 }
+        ensures { self.new ≡ stored_by self.old node stored }
+    {
+        if let Some(kept) = stored {
+            let n = node as usize;
+            self.results[n] = kept.result;
+            self.streaks[n] = kept.streak;
+        }
+    }
+
     // Routing stores the result with the reported outcome, then the streak, and follows the route.
     pub fn route(mut self, w: &[u32; NUMBERS], outcome: u32, output: Output) -> Move
         ensures { result ≡ route (workflow w.now) self outcome output }
     {
         let position = self.position;
-        let n = position.node as usize;
         let streak = self.streak_of(position.node);
-        let r = routed_from(w, position, streak, outcome, output, no_ending());
-        if let Some(kept) = r.stored {
-            self.results[n] = kept.result;
-            self.streaks[n] = kept.streak;
-        }
+        let r = routed_from(w, position, streak, outcome, output, None);
+        self.store(position.node, r.stored);
         Move {
             state: self,
             next: r.next,
             note: r.note,
             ending: r.ending,
-            order: Order::Nothing,
+            order: None,
             read: 0,
         }
     }
@@ -259,19 +268,15 @@ impl State {
         if let Next::Consume = next {
             found = self.remove_first(workflow::node_of(w, position.node).signal);
         }
-        let n = position.node as usize;
         let streak = self.streak_of(position.node);
         let r = taken_by(w, next, arrived, found, position, streak);
-        if let Some(kept) = r.stored {
-            self.results[n] = kept.result;
-            self.streaks[n] = kept.streak;
-        }
+        self.store(position.node, r.stored);
         Move {
             state: self,
             next: r.next,
             note: r.note,
             ending: r.ending,
-            order: Order::Nothing,
+            order: None,
             read: 0,
         }
     }

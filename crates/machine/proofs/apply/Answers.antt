@@ -25,7 +25,7 @@ returns-in-Retry c = simp (← c.max.ensures) (applied _ _ _ c.react-reaction.en
 
 pub returns-in-Park : goal.returns-in-Park
 unfolding performed
-returns-in-Park c = simp (← c.max.ensures) (applied _ _ _ c.react-reaction.ensures c.in-Park.is (simp (← c.no_ending.ensures)))
+returns-in-Park c = simp (← c.max.ensures) (applied _ _ _ c.react-reaction.ensures c.in-Park.is refl)
 
 pub returns-in-Fail : goal.returns-in-Fail
 unfolding performed

@@ -4,4 +4,4 @@ use Rattle.machine.proofs.events.not_applicable.Goals as goal
 
 pub returns : goal.returns
 unfolding performed not_applicable
-returns c f p s h = simp (h.invocation_is, ← c.named_node.ensures, ← c.no_ending.ensures)
+returns c f p s h = simp (h.invocation_is, ← c.named_node.ensures)

@@ -10,4 +10,4 @@ returns-then-event-eq-SIGNAL_RECEIVED c f s = simp (eq-eqb _ _ c.if-event-eq-SIG
 
 pub returns : goal.returns
 unfolding performed on_ended when◌then◌else◌
-returns c f s = simp (ne_eqb _ _ c.if-event-eq-SIGNAL_RECEIVED.false, ← c.no_ending.ensures)
+returns c f s = simp (ne_eqb _ _ c.if-event-eq-SIGNAL_RECEIVED.false)

@@ -18,4 +18,4 @@ returns-then-applies c s h = simp (h.invocation_is, ← c.applies.ensures, c.if-
 
 pub returns : goal.returns
 unfolding performed on_result when◌then◌else◌
-returns c s h = simp (h.invocation_is, ← c.applies.ensures, c.if-applies.false, ← c.named_node.ensures, ← c.no_ending.ensures)
+returns c s h = simp (h.invocation_is, ← c.applies.ensures, c.if-applies.false, ← c.named_node.ensures)

@@ -1,11 +1,10 @@
 use native.Mathlib.Omega.{arith}
-use mathlib.Core.Path.{◌≡◌, refl, sym, ◌∙◌}
-use lib.ListN.{length}
+use mathlib.Core.Path.{refl, ◌∙◌}
 use Rattle.std.proofs.Common.{rules}
 use Rattle.laws.specs.Arrays.{length_field}
-use Rattle.model.specs.EnterLaws.{Uncounted, destination, settled, counted_one, counted_none, stores}
+use Rattle.model.specs.EnterLaws.{Uncounted, destination, counted_one, counted_none, stores}
 use Rattle.model.proofs.State.enter.Goals as goal
-use Rattle.model.proofs.State.enter.Goals.{then-e, else-e, in-Unmoved, in-Placed, in-Finished}
+use Rattle.model.proofs.State.enter.Goals.{then-e, else-e}
 
 pub one_more-visit-requires : goal.one_more-visit-requires
 one_more-visit-requires c = (c.entry_by-e.ensures.room c.if-e.true).visit
@@ -26,6 +25,5 @@ returns c =
     record { shows = record { visits_are = rw (← n, c.visits_of-count.ensures) refl; last_is = refl }; activations_are = refl; slots = search (rules, length_field) } in
     stores _ _ e
     (elim c.if-e.branch [ then-e w ↦ counted_one e k w.if-e.true n w.one_more-visit.ensures w.one_more-activations.ensures w.self-is | else-e w ↦ counted_none e k w.if-e.false w.self-is ])
-    (elim c.match-e.branch [ in-Unmoved w ↦ w.self-is ∙ rw w.in-Unmoved.is | in-Placed w ↦ w.self-is ∙ rw w.in-Placed.is | in-Finished w ↦ w.self-is ∙ w.finished-self.ensures ∙ rw w.in-Finished.is ])
-    c.no_note.ensures c.no_ending.ensures ∙
+    c.settle.ensures ∙
     c.entry_by-e.ensures.result_value _ k

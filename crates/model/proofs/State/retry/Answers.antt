@@ -8,4 +8,4 @@ returns-in_default c = c.still.ensures ∙ (rw c.in_default.is at (c.attempt_aft
 
 pub returns : goal.returns
 unfolding tried
-returns c = rw c.no_ending.ensures (rw c.in-Some.is at (c.attempt_after.ensures.of_record c.args.self refl refl refl))
+returns c = rw c.in-Some.is at (c.attempt_after.ensures.of_record c.args.self refl refl refl)

@@ -12,9 +12,9 @@ returns-in-Some c = rw (c.in-Consume.is, c.in-Some.is) c.taken-in-Some.ensures
 
 pub returns-in-None : goal.returns-in-None
 unfolding taken_by found_taken
-returns-in-None c = unstored_makes _ _ _ _ _ _ c.unstored.ensures (λ s a. rw (c.no_note.ensures, c.no_ending.ensures, c.in-Consume.is, c.in-None.is) refl)
+returns-in-None c = unstored_makes _ _ _ _ _ _ c.unstored.ensures (λ s a. rw (c.in-Consume.is, c.in-None.is) refl)
 
 pub returns-in_default : goal.returns-in_default
 returns-in_default c =
     unstored_makes _ _ _ _ _ _ c.unstored-in_default.ensures
-    (λ s a. rw (c.no_note-in_default.ensures, c.no_ending-in_default.ensures) (passed_on _ c.args.next _ _ s c.in_default.not-Take c.in_default.not-Consume))
+    (λ s a. passed_on _ c.args.next _ _ s c.in_default.not-Take c.in_default.not-Consume)

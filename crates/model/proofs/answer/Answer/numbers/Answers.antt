@@ -10,8 +10,8 @@ use Rattle.model.proofs.answer.Answer.numbers.Goals as goal
 pub returns-in-Next : goal.returns-in-Next
 unfolding answer_numbers rows
 returns-in-Next c =
-    simp (c.in-Next.is, c.from.ensures, ← c.numbers-o.ensures)
-    (ap (λ (r : List ℕ). 1 ∷ c.in-Next.microsteps ∷ r) (rows_all 0 c.numbers-o.result 9 (search (rules, length_field))))
+    simp (c.in-Next.is, c.from.ensures, ← c.order_numbers-o.ensures)
+    (ap (λ (r : List ℕ). 1 ∷ c.in-Next.microsteps ∷ r) (rows_all 0 c.order_numbers-o.result 9 (search (rules, length_field))))
 
 pub returns-in-Wants : goal.returns-in-Wants
 unfolding answer_numbers

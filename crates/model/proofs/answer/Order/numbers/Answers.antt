@@ -4,10 +4,6 @@ use Rattle.model.specs.Answers.{order_numbers}
 use Rattle.std.proofs.Common.{rules}
 use Rattle.model.proofs.answer.Order.numbers.Goals as goal
 
-pub returns-in-Nothing : goal.returns-in-Nothing
-unfolding order_numbers
-returns-in-Nothing c = simp c.in-Nothing.is
-
 pub returns-in-Schedule : goal.returns-in-Schedule
 unfolding order_numbers rows
 returns-in-Schedule c =
