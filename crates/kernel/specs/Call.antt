@@ -1,5 +1,5 @@
 -- A call, whole and in the order of document 01: sheet, event, record, step, finish.
-use Rattle.std.specs.Prelude.{Bool, true, false, not, List, [], ◌∷◌, ◌++◌, ℕ, ◌+◌, ltb, eqb}
+use Rattle.std.specs.Prelude.{Option, Some, None, Bool, true, false, not, List, [], ◌∷◌, ◌++◌, ℕ, ◌+◌, ltb, eqb}
 use Rattle.laws.specs.Bool.{when◌then◌else◌}
 use Rattle.workflow.specs.View.{Workflow}
 use Rattle.graph.specs.declared.Verdict.{Verdict}
@@ -69,7 +69,7 @@ given (last state) call = state
 -- THE ANSWER is one of three: a next record with its order, notes and endings; a want of one mapping value, with the record at that moment; a refusal with its number and item.
 pub record Accepted : Type 0 where
   pub state : State
-  pub order : Order
+  pub order : Option Order
   pub notes : List Note
   pub endings : List Ending
   pub microsteps : ℕ
@@ -97,10 +97,9 @@ closed machine =
     else machine
 
 -- THE FINISH: 29 orders over the command limit, then 30 operations over theirs. A want and a refusal come before.
-abbrev pub orders : Order → ℕ
-orders Order.Nothing = 0
-orders (Order.Schedule schedule) = 1
-orders (Order.Retry retry) = 1
+abbrev pub orders : Option Order → ℕ
+orders None = 0
+orders (Some order) = 1
 
 abbrev pub accepted_of : Machine → Accepted
 accepted_of machine = record { state = machine.state; order = machine.order; notes = machine.notes; endings = machine.endings; microsteps = machine.microsteps }
