@@ -1,5 +1,5 @@
 -- What the driver keeps: at every moment of a call the moves' laws hold of its machine, with what may still come.
-use Rattle.std.specs.Prelude.{◌≡◌, Bool, false, ◌⊎◌, List, [], ◌∷◌, ◌++◌, eqb, ltb}
+use Rattle.std.specs.Prelude.{◌≡◌, Bool, false, ◌⊎◌, List, [], ◌∷◌, ◌++◌, eqb, ltb, Option, Some, None}
 use Rattle.std.proofs.Math.Path.{refl, ap, subst, fun_ext}
 use Rattle.std.proofs.Common.{sym, ◌∙◌, inl, arith}
 use Rattle.std.proofs.Math.Bool.{true}
@@ -12,8 +12,6 @@ use Rattle.laws.specs.Settle.{settle, settle_rests}
 use Rattle.workflow.specs.View.{Workflow}
 use Rattle.workflow.specs.Lookup.{node_of}
 use Rattle.workflow.specs.Sound.{Sound}
-use Rattle.workflow.specs.declared.Found.{Found}
-use Rattle.workflow.specs.declared.Found.TheVariants.{At, Nothing}
 use Rattle.model.specs.declared.State.{State}
 use Rattle.model.specs.declared.event.Event.{Event}
 use Rattle.model.specs.declared.event.Mappings.{Mappings}
@@ -50,13 +48,10 @@ unfolding ends
 ends_append q [] ys = omega arith
 ends_append q (x ∷ xs) ys = omega (arith, ends_append q xs ys)
 
-ends_add : (q : ℕ) (xs : List Ending) (x : Ending) → ends q xs + ends_of q x ≡ ends q (added x.ending xs x)
-unfolding added ends_of ends when◌then◌else◌
-ends_add q xs x = split (eqb x.ending 0) (λ h. rw h (omega arith)) (λ h. rw h (omega (arith, ends_append q xs (x ∷ []))))
-
-zero_plain : (x : Note) → x.code ≡ 0 → plain x ≡ true
-unfolding plain ◌and◌
-zero_plain x h = rw h
+ends_add : (q : ℕ) (xs : List Ending) (o : Option Ending) → ends q xs + ends_of q o ≡ ends q (added xs o)
+unfolding added ends_of ends
+ends_add q xs None = omega arith
+ends_add q xs (Some x) = omega (arith, ends_append q xs (x ∷ []))
 
 module _ (f : Workflow) (sheet : Sound f) (limit : ℕ) (e : Event) (m : Mappings) where
   -- WHAT IS KEPT k moves before the last, from move to move, and by a machine that has come to rest, holds at the end.
@@ -102,14 +97,14 @@ module _ (f : Workflow) (sheet : Sound f) (limit : ℕ) (e : Event) (m : Mapping
       (λ l. rw l (λ b. record { checks = inr (refl, omega (arith, ltb-true limit (x.microsteps + 1) l)); bounds = b }))
       (λ l. rw l (λ b. checked_moved k (x.microsteps + 1) x v t b))
 
-  checked_consume : (k : ℕ) (x : Machine) → Checks Consume (suc k) x → (y : Found) → first_signal x.state (node_of f x.state.position.node).signal ≡ y
+  checked_consume : (k : ℕ) (x : Machine) → Checks Consume (suc k) x → (y : Option ℕ) → first_signal x.state (node_of f x.state.position.node).signal ≡ y
       → Bounded f limit e m k (consume_by f limit e m y x) → Checked k (consume_by f limit e m y x)
   unfolding consume_by
-  checked_consume k x a (At i) z b =
+  checked_consume k x a (Some i) z b =
       let h = first_inside x.state _ i z in
       checked_counting k x _ (omega (arith, a.bounds.steps))
       (Tidy.good_take f sheet (removed x.state i) (signal_at x.state i) Consume Tidy.consumes (Tidy.after_removed f x.state i h a.checks)) b
-  checked_consume k x a Nothing z b = checked_moved k x.microsteps x (still x.state Rest) (record { after = record { tidy = a.checks.on.tidy; well = a.checks.well } }) b
+  checked_consume k x a None z b = checked_moved k x.microsteps x (still x.state Rest) (record { after = record { tidy = a.checks.on.tidy; well = a.checks.well } }) b
 
   -- a machine at rest stays
   rests : (n : Next) (k j : ℕ) (x : Machine) → Checks n k x → Bounds n j x → Checks n j x
@@ -166,17 +161,17 @@ module _ (f : Workflow) (sheet : Sound f) (limit : ℕ) (e : Event) (m : Mapping
         (λ l. rw l (λ b. record { base = b; keeps = tt; opens = tt }))
         (λ l. rw l (λ b. kept_moved k (x.microsteps + 1) x v g o b))
 
-    kept_consume : (k : ℕ) (x : Machine) → Keeps Consume (suc k) x → (y : Found) → first_signal x.state (node_of f x.state.position.node).signal ≡ y
+    kept_consume : (k : ℕ) (x : Machine) → Keeps Consume (suc k) x → (y : Option ℕ) → first_signal x.state (node_of f x.state.position.node).signal ≡ y
         → Checked k (consume_by f limit e m y x) → Kept k (consume_by f limit e m y x)
     unfolding consume_by
-    kept_consume k x a (At i) z b =
+    kept_consume k x a (Some i) z b =
         let s = removed x.state i in
         let g = signal_at x.state i in
         let t = a.base.checks.on.tidy.store.slotted in
         kept_counting k x _
         (Keep.good_take f s₀ e sheet s g Tidy.consumes (live_removed f s₀ e x.state i t (first_inside x.state _ i z) a.keeps.live) (stands_removed f s₀ e x.state i a.keeps.stands))
         (Opened.good_take f s₀.invocation s g Tidy.consumes (Opened.still_removed f s₀.invocation x.state i a.opens)) b
-    kept_consume k x a Nothing z b = kept_moved k x.microsteps x (still x.state Rest) (good_waits f s₀ e x.state a.keeps.live a.keeps.stands) (record { after = a.opens }) b
+    kept_consume k x a None z b = kept_moved k x.microsteps x (still x.state Rest) (good_waits f s₀ e x.state a.keeps.live a.keeps.stands) (record { after = a.opens }) b
 
     stays : (n : Next) (k j : ℕ) (x : Machine) → Keeps n k x → Checks n j x → Keeps n j x
     stays n k j x a b = record { base = b; keeps = a.keeps; opens = a.opens }
@@ -212,19 +207,20 @@ module _ (f : Workflow) (sheet : Sound f) (limit : ℕ) (e : Event) (m : Mapping
         ap (λ (x : Machine). x.state) (settle_rests (is_moving f limit e m) (advance f limit e m) 131 (started f limit e m s₀) (ap (moves_on f limit e m) r.over)) ∙ r.same
 
     -- With none of the notes 1 to 3 a result was heard: what is noted stays noted.
-    plain_before : (xs : List Note) (x : Note) → every plain (added x.code xs x) ≡ true → every plain xs ≡ true
-    unfolding added when◌then◌else◌
-    plain_before xs x = split (eqb x.code 0) (λ h. rw h (λ g. g)) (λ h. rw h (λ g. every_front plain xs (x ∷ []) g))
+    plain_before : (xs : List Note) (o : Option Note) → every plain (added xs o) ≡ true → every plain xs ≡ true
+    unfolding added
+    plain_before xs None g = g
+    plain_before xs (Some x) g = every_front plain xs (x ∷ []) g
 
     plain_counting : (x : Machine) (v : Move) → every plain (counting f limit e m x v).notes ≡ true → every plain x.notes ≡ true
     unfolding counting
     plain_counting x v =
         either (λ (y : Machine). every plain y.notes ≡ true → every plain x.notes ≡ true) (ltb limit (x.microsteps + 1)) (λ _ g. g) (λ _ g. plain_before x.notes v.note g)
 
-    plain_consume : (y : Found) (x : Machine) → every plain (consume_by f limit e m y x).notes ≡ true → every plain x.notes ≡ true
+    plain_consume : (y : Option ℕ) (x : Machine) → every plain (consume_by f limit e m y x).notes ≡ true → every plain x.notes ≡ true
     unfolding consume_by
-    plain_consume (At i) x g = plain_counting x _ g
-    plain_consume Nothing x g = plain_before x.notes no_note g
+    plain_consume (Some i) x g = plain_counting x _ g
+    plain_consume None x g = plain_before x.notes None g
 
     plain_advance : (n : Next) (x : Machine) → every plain (advance_by f limit e m n x).notes ≡ true → every plain x.notes ≡ true
     unfolding advance_by
@@ -241,10 +237,6 @@ module _ (f : Workflow) (sheet : Sound f) (limit : ℕ) (e : Event) (m : Mapping
     plain_settle (suc k) x =
         either (λ (y : Machine). every plain y.notes ≡ true → every plain x.notes ≡ true) (is_moving f limit e m x) (λ _ g. plain_advance x.next x (plain_settle k _ g)) (λ _ g. g)
 
-    plain_note : (x : Note) → every plain (added x.code [] x) ≡ true → plain x ≡ true
-    unfolding added when◌then◌else◌ every ◌and◌
-    plain_note x = split (eqb x.code 0) (λ h. rw h (λ g. zero_plain x (eqb-true _ _ h))) (λ h. rw h (λ g. (both _ _ g).0))
-
     pub driven_hears : eqb e.kind activity_result ≡ true → every plain (driven f limit e m s₀).notes ≡ true → heard f s₀ e ≡ true
     unfolding driven
-    driven_hears k g = hears f (seen s₀ e.sequence e.accepted_at) e k (plain_note (apply f s₀ e).note (plain_settle 131 (started f limit e m s₀) g))
+    driven_hears k g = hears f (seen s₀ e.sequence e.accepted_at) e k (plain_settle 131 (started f limit e m s₀) g)

@@ -1,13 +1,12 @@
 -- The proof of demand 3.
-use Rattle.std.specs.Prelude.{true, ◌≡◌, refl, List, [], ◌∷◌, ◌++◌, ℕ, zero, suc, ◌+◌, ◌≤◌}
+use Rattle.graph.specs.Verdict.{Verdict}
+use Rattle.std.specs.Prelude.{true, ◌≡◌, refl, List, [], ◌∷◌, ◌++◌, ℕ, zero, suc, ◌+◌, ◌≤◌, Ok, Err}
 use Rattle.std.proofs.Common.{sym, ◌∙◌, ap, arith}
 use Rattle.laws.specs.Bool.{either}
 use Rattle.laws.specs.All.{All, all_map}
 use Rattle.laws.specs.Every.{every}
 use Rattle.workflow.specs.View.{Workflow}
 use Rattle.workflow.specs.Sound.{Sound}
-use Rattle.graph.specs.declared.Verdict.{Verdict}
-use Rattle.graph.specs.declared.Verdict.TheVariants.{Fine, Broken}
 use Rattle.model.specs.declared.State.{State}
 use Rattle.model.specs.declared.moves.Next.{Next}
 use Rattle.model.specs.declared.moves.Next.TheVariants.{Rest, Enter, Take, Consume, Wants, Refuse}
@@ -84,10 +83,10 @@ module _ (f : Workflow) (sheet : Sound f) (c : Call) (ds : List Done) (s : State
 
 tells_by : (f : Workflow) (ds : List Done) (r : Last) (c : Call) (v : Verdict) → admission f r c ≡ v → Inv f ds r → Tells f c (given r c) (transition_by v f r c)
 unfolding transition_by
-tells_by f ds r c Fine e i =
+tells_by f ds r c (Ok tt) e i =
     let a = admitted f r c e in
     tells_step f a.sheet c ds (given r c) (given_history f ds r c i) (begins f r c (sized_last f ds r i) a)
-tells_by f ds r c (Broken k n) e i = record { tells = tt }
+tells_by f ds r c (Err x) e i = record { tells = tt }
 
 -- ONE CALL MORE, whatever its answer.
 more : (f : Workflow) (c : Call) (ds : List Done) (r : Last) (z : Answer) → Inv f ds r → Told f c (given r c) z → Inv f (done_by c.event z ++ ds) (standing_after z r)

@@ -1,15 +1,15 @@
 -- What every move of a call keeps, on a sound sheet: signals are not lost, counts stay within their limits, and every order is new.
-use Rattle.std.specs.Prelude.{◌≡◌, ◌⊎◌, Bool, true, false, List, ℕ, ◌+◌, ◌≤◌, ◌<◌, get_or, length, eqb, Option, Some, None, Result, Ok, Err}
+use Rattle.std.specs.Prelude.{[], ◌≡◌, ◌⊎◌, Bool, true, false, List, ℕ, ◌+◌, ◌≤◌, ◌<◌, get_or, length, eqb, Option, Some, None, Result, Ok, Err}
 use Rattle.std.proofs.Math.Path.{refl, ap, fun_ext}
 use Rattle.std.proofs.Common.{sym, ◌∙◌, subst, arith, length-set, get_or-set_same}
 use Rattle.std.proofs.Math.Logic.{inl, inr}
 use Rattle.std.proofs.Math.Bool.{not, false≢true}
 use borrow.Author.Tests.{leb-false, eqb-true, ne_eqb, not-true, not-false}
+use Rattle.laws.specs.Every.{every}
+use Rattle.kernel.specs.Drive.{added}
 use Rattle.laws.specs.Bool.{when◌then◌else◌, ◌and◌, both, join, if_true, if_false, split, either}
 use Rattle.workflow.specs.Code.{none, exhausted}
 use Rattle.model.specs.Code.{scheduled, unknown, stuck, run_started, signal_received, activity_result, end_routed, end_unrouted, end_overflow, end_ignored}
-use Rattle.workflow.specs.declared.Found.{Found}
-use Rattle.workflow.specs.declared.Found.TheVariants.{At, Nothing}
 use Rattle.workflow.specs.View.{Workflow}
 use Rattle.workflow.specs.Lookup.{route_of}
 use Rattle.workflow.specs.Sound.{Sound}
@@ -31,11 +31,11 @@ use Rattle.model.specs.declared.moves.Next.TheVariants.{Rest, Enter, Take, Consu
 use Rattle.model.specs.declared.moves.Move.{Move}
 use Rattle.model.specs.Record.{no_visits, visits_of, is_terminal, seen}
 use Rattle.model.specs.Store.{stored, signal_at, removed, appended}
-use Rattle.model.specs.Step.{no_ending, still, reading, one_more_visit, phased, arrival, terminate, evaluate, without_value, schedule, enter_activity, enter_await, enter_complete, arrive, enter, follow_to, route_limited, route, take_by, take as take_signal, retry}
+use Rattle.model.specs.Step.{still, reading, one_more_visit, phased, arrival, terminate, evaluate, without_value, schedule, enter_activity, enter_await, enter_complete, arrive, enter, follow_to, route_limited, route, take_by, take as take_signal, retry}
 use Rattle.machine.specs.Events.{named, applies, not_applicable, complete_invocation, stick, fail_invocation, on_signal, on_success, on_failure, on_unknown, on_result, resolve_as_complete, resolve_as_fail, on_resolved, on_ended, react, apply}
 use Rattle.model.specs.StoreLaws.{IsSlotted, stored_length, appended_room, stored_appended, removed_at, stored_removed}
 use Rattle.demand3.specs.Words.{is_it, times, Counts, plain}
-use Rattle.demand3.proofs.Counts.{ends_of, ends_none, ends_one, times_more, times_less, counts_more, grows_set}
+use Rattle.demand3.proofs.Counts.{ends_of, times_more, times_less, counts_more, grows_set}
 use Rattle.demand3.proofs.Tidy.{Missed, rests, consumes}
 use Rattle.kernel.specs.Cost.{entered, spares_result, spares_resolved}
 
@@ -95,7 +95,7 @@ heard_is f s e r h =
       rises = if_true _ _ _ h;
     }
 
--- Nothing is told, or in hand.
+-- None is told, or in hand.
 abbrev pub nothing : (q : ℕ) → ℕ
 nothing q = 0
 
@@ -129,13 +129,13 @@ module _ (f : Workflow) (s₀ : State) (e : Event) where
     pub real : 1 ≤ visit
     pub is_new : ((visits_of s₀ node).count < visit) ⊎ ((node ≡ s₀.position.node) × (s₀.invocation.attempt < attempt))
 
-  abbrev pub Ordering : State → Order → Type 0
-  Ordering s Order.Nothing = Unit {0}
-  Ordering s (Order.Schedule x) = New s x.node x.visit x.attempt
-  Ordering s (Order.Retry x) = New s x.node x.visit x.attempt
+  abbrev pub Ordering : State → Option Order → Type 0
+  Ordering s None = Unit {0}
+  Ordering s (Some (Order.Schedule x)) = New s x.node x.visit x.attempt
+  Ordering s (Some (Order.Retry x)) = New s x.node x.visit x.attempt
 
   -- What holds after a move, by what comes next.
-  abbrev pub After : (told : ℕ → ℕ) → State → Order → Next → Type 0
+  abbrev pub After : (told : ℕ → ℕ) → State → Option Order → Next → Type 0
   After told s o Rest = record { live : Lives told s nothing; stands : Stands s; orders : Ordering s o }
   After told s o (Enter n b) = record { live : Lives told s nothing; inside : n < f.node_count }
   After told s o Take = record { live : Lives told s (λ q. is_it q e.sequence); stands : Stands s }
@@ -161,19 +161,21 @@ module _ (f : Workflow) (s₀ : State) (e : Event) where
   stands_appended s x g = either Stands _ (λ _. g) (λ _. g)
 
   -- a move without an ending tells nothing
-  untold : (told : ℕ → ℕ) (x : Ending) → x ≡ no_ending → told ≡ (λ q. told q + ends_of q x)
-  untold told x z = fun_ext (λ q. rw z (omega (arith, ends_none q 0)))
+  untold : (told : ℕ → ℕ) (x : Option Ending) → x ≡ None → told ≡ (λ q. told q + ends_of q x)
+  unfolding ends_of
+  untold told x z = fun_ext (λ q. rw z (omega arith))
 
   module _ {told : ℕ → ℕ} where
-    good : (v : Move) → v.ending ≡ no_ending → Leads told v → Good told v
+    good : (v : Move) → v.ending ≡ None → Leads told v → Good told v
     good v z g = record { after = subst (λ (t : ℕ → ℕ). After t v.state v.order v.next) (untold told v.ending z) g.leads }
 
     -- a signal in hand ends
-    live_ended : (s : State) (q k : ℕ) → eqb k 0 ≡ false → Lives told s (λ p. is_it p q) → Lives (λ p. told p + ends_of p (record { sequence = q; ending = k })) s nothing
-    live_ended s q k z g =
+    live_ended : (s : State) (q k : ℕ) → Lives told s (λ p. is_it p q) → Lives (λ p. told p + ends_of p (Some (record { sequence = q; ending = k }))) s nothing
+    unfolding ends_of
+    live_ended s q k g =
         record {
           nodes = g.nodes;
-          conserved = λ p. omega (arith, g.conserved p, ends_one p q k z);
+          conserved = λ p. omega (arith, g.conserved p);
           grows = g.grows;
           counts = g.counts;
           timed = g.timed;
@@ -197,8 +199,8 @@ module _ (f : Workflow) (s₀ : State) (e : Event) where
     leads_if : (b : Bool) {x y : Move} → Leads told x → Leads told y → Leads told (when b then x else y)
     leads_if b p q = either (Leads told) b (λ _. p) (λ _. q)
 
-    leads_rest : (s : State) {x : Note} {y : Ending} {r : ℕ} → Lives told s nothing → Stands s
-        → Leads told (record { state = s; next = Rest; note = x; ending = y; order = Order.Nothing; read = r })
+    leads_rest : (s : State) {x : Option Note} {y : Option Ending} {r : ℕ} → Lives told s nothing → Stands s
+        → Leads told (record { state = s; next = Rest; note = x; ending = y; order = None; read = r })
     leads_rest s g h = record { leads = record { live = g; stands = h; orders = tt } }
 
     -- no stored signal is left to take
@@ -271,15 +273,15 @@ module _ (f : Workflow) (s₀ : State) (e : Event) where
       good_enter s n b m h g = good _ (entered f s n b m).no_end (leads_enter s n b m h g)
 
       -- ROUTING.
-      leads_follow : (s : State) (n o : ℕ) (x : Found) → route_of f n o ≡ x → Lives told s nothing → Leads told (follow_to f s n x)
+      leads_follow : (s : State) (n o : ℕ) (x : Option ℕ) → route_of f n o ≡ x → Lives told s nothing → Leads told (follow_to f s n x)
       unfolding follow_to
-      leads_follow s n o (At t) r g = record { leads = record { live = g; inside = sheet.targets n o t r } }
-      leads_follow s n o Nothing r g = record { leads = tt }
+      leads_follow s n o (Some t) r g = record { leads = record { live = g; inside = sheet.targets n o t r } }
+      leads_follow s n o None r g = record { leads = tt }
 
-      leads_limited : (s : State) (n o : ℕ) (x : Found) → Lives told s nothing → Leads told (route_limited f s n o x)
+      leads_limited : (s : State) (n o : ℕ) (x : Option ℕ) → Lives told s nothing → Leads told (route_limited f s n o x)
       unfolding route_limited
-      leads_limited s n o Nothing g = leads_follow _ n o _ refl g
-      leads_limited s n o (At x) g = leads_if _ (record { leads = (leads_follow _ n exhausted _ refl g).leads }) (leads_follow _ n o _ refl g)
+      leads_limited s n o None g = leads_follow _ n o _ refl g
+      leads_limited s n o (Some x) g = leads_if _ (record { leads = (leads_follow _ n exhausted _ refl g).leads }) (leads_follow _ n o _ refl g)
 
       leads_route : (s : State) (o : ℕ) (x : Output) → Lives told s nothing → Leads told (route f s o x)
       unfolding route
@@ -287,11 +289,11 @@ module _ (f : Workflow) (s₀ : State) (e : Event) where
 
     -- TAKING.
     module _ {told : ℕ → ℕ} (s : State) (x : BufferedSignal) where
-      good_take_by : (y : Found) {k : Next} → Missed k → Lives told s (λ q. is_it q x.sequence) → Stands s → Good told (take_by f y s x k)
+      good_take_by : (y : Option ℕ) {k : Next} → Missed k → Lives told s (λ q. is_it q x.sequence) → Stands s → Good told (take_by f y s x k)
       unfolding take_by
-      good_take_by (At t) m g h = record { after = (leads_route s _ _ (live_ended s x.sequence end_routed refl g)).leads }
-      good_take_by Nothing rests g h = record { after = record { live = live_ended s x.sequence end_unrouted refl g; stands = h; orders = tt } }
-      good_take_by Nothing consumes g h = record { after = record { live = live_ended s x.sequence end_unrouted refl g; stands = h } }
+      good_take_by (Some t) m g h = record { after = (leads_route s _ _ (live_ended s x.sequence end_routed g)).leads }
+      good_take_by None rests g h = record { after = record { live = live_ended s x.sequence end_unrouted g; stands = h; orders = tt } }
+      good_take_by None consumes g h = record { after = record { live = live_ended s x.sequence end_unrouted g; stands = h } }
 
       pub good_take : {k : Next} → Missed k → Lives told s (λ q. is_it q x.sequence) → Stands s → Good told (take_signal f s x k)
       good_take m g h = good_take_by _ m g h
@@ -404,20 +406,19 @@ module _ (f : Workflow) (s₀ : State) (e : Event) where
               timed = g.timed;
             })
 
-        good_dropped : (c : ℕ) {x : Note} → eqb c 0 ≡ false
-            → Good nothing (record { state = s₁; next = Rest; note = x; ending = record { sequence = e.sequence; ending = c }; order = Order.Nothing; read = 0 })
-        good_dropped c z = record { after = record { live = live_ended s₁ e.sequence c z arrived; stands = h; orders = tt } }
+        good_dropped : (c : ℕ) {x : Option Note} → Good nothing (record { state = s₁; next = Rest; note = x; ending = Some (record { sequence = e.sequence; ending = c }); order = None; read = 0 })
+        good_dropped c = record { after = record { live = live_ended s₁ e.sequence c arrived; stands = h; orders = tt } }
 
         good_signal : Good nothing (on_signal f s₁ e)
         unfolding on_signal
         good_signal =
             either (Good nothing) _ (λ _. good _ refl (record { leads = record { live = arrived; stands = h } }))
-            (λ _. either (Good nothing) _ (λ _. good_dropped end_overflow refl)
+            (λ _. either (Good nothing) _ (λ _. good_dropped end_overflow)
             (λ r. good _ refl (leads_rest _ (live_appended (leb-false _ _ r)) (stands_appended s₁ (arrival e) h))))
 
       good_ended : Stands s₁ → Good nothing (on_ended s₁ e)
       unfolding on_ended
-      good_ended h = either (Good nothing) _ (λ k. good_dropped k h end_ignored refl) (λ n. good _ refl (leads_rest s₁ (live n) h))
+      good_ended h = either (Good nothing) _ (λ k. good_dropped k h end_ignored) (λ n. good _ refl (leads_rest s₁ (live n) h))
 
       pub good_react : Good nothing (apply f s₀ e)
       unfolding react
@@ -448,10 +449,10 @@ module _ (f : Workflow) (s : State) (e : Event) where
 
   -- A RESULT without the notes 1 to 3 is heard.
   record Tells (v : Move) : Type 0 where
-    tells : plain v.note ≡ true → heard f s e ≡ true
+    tells : every plain (added [] v.note) ≡ true → heard f s e ≡ true
 
   tells_result : eqb e.kind activity_result ≡ true → Tells (react f s e)
-  unfolding react on_ended on_result plain ◌and◌
+  unfolding react on_ended on_result added every plain ◌and◌
   tells_result k =
       either Tells _ (λ _. either Tells _ (λ _. record { tells = λ p. absurd (false≢true p) }) (λ _. record { tells = λ p. absurd (false≢true p) }))
       (λ o. either Tells _ (λ x. absurd (omega (arith, eqb-true e.kind activity_result k, eqb-true e.kind run_started x)))
@@ -460,5 +461,5 @@ module _ (f : Workflow) (s : State) (e : Event) where
       (λ _. either Tells _ (λ _. record { tells = λ p. absurd (false≢true p) }) (λ a. record { tells = λ _. join _ _ k (join _ _ (ap not o) (not-false _ a)) }))
       (λ x. absurd (false≢true (sym x ∙ k))))))
 
-  pub hears : eqb e.kind activity_result ≡ true → plain (react f s e).note ≡ true → heard f s e ≡ true
+  pub hears : eqb e.kind activity_result ≡ true → every plain (added [] (react f s e).note) ≡ true → heard f s e ≡ true
   hears k = (tells_result k).tells

@@ -3,8 +3,6 @@ use Rattle.std.specs.Prelude.{◌≡◌, Bool, false, [], ◌∷◌, ℕ, eqb, O
 use Rattle.std.proofs.Math.Path.{refl}
 use Rattle.laws.specs.Bool.{when◌then◌else◌, either}
 use Rattle.workflow.specs.View.{Workflow}
-use Rattle.workflow.specs.declared.Found.{Found}
-use Rattle.workflow.specs.declared.Found.TheVariants.{At, Nothing}
 use Rattle.model.specs.Code.{scheduled}
 use Rattle.model.specs.declared.ErrorInfo.{ErrorInfo}
 use Rattle.model.specs.declared.Output.{Output}
@@ -30,18 +28,18 @@ abbrev pub its_attempt : InvocationState → Attempt
 its_attempt i = attempt i.node i.visit i.attempt
 
 -- No attempt is open; the open one is ordered by o; or it is the invocation that was there before.
-pub data Opened (before i : InvocationState) (o : Order) : Type 0 where
+pub data Opened (before i : InvocationState) (o : Option Order) : Type 0 where
   closed : eqb i.phase scheduled ≡ false → Opened before i o
   orders_it : ordered_by o ≡ its_attempt i ∷ [] → Opened before i o
   as_before : i ≡ before → Opened before i o
 
 module _ (f : Workflow) (before : InvocationState) where
   -- After a move, by what comes next: only one that rests leaves an order.
-  abbrev pub After : State → Order → Next → Type 0
+  abbrev pub After : State → Option Order → Next → Type 0
   After s o Rest = Opened before s.invocation o
-  After s o (Enter n b) = Opened before s.invocation Order.Nothing
-  After s o Take = Opened before s.invocation Order.Nothing
-  After s o Consume = Opened before s.invocation Order.Nothing
+  After s o (Enter n b) = Opened before s.invocation None
+  After s o Take = Opened before s.invocation None
+  After s o Consume = Opened before s.invocation None
   After s o (Wants n i b) = Unit {0}
   After s o (Refuse k) = Unit {0}
 
@@ -50,7 +48,7 @@ module _ (f : Workflow) (before : InvocationState) where
 
   -- what is open before a move
   abbrev pub Still : State → Type 0
-  Still s = Opened before s.invocation Order.Nothing
+  Still s = Opened before s.invocation None
 
   good_if : (b : Bool) {x y : Move} → Good x → Good y → Good (when b then x else y)
   good_if b p q = either Good b (λ _. p) (λ _. q)
@@ -79,25 +77,25 @@ module _ (f : Workflow) (before : InvocationState) where
   unfolding enter
   good_enter s n b m = good_if _ (record { after = tt }) (good_if _ (good_terminate s _) (good_if _ (good_terminate s _) (good_arrive _ n b m)))
 
-  good_follow : (s : State) (n : ℕ) (x : Found) → Still s → Good (follow_to f s n x)
+  good_follow : (s : State) (n : ℕ) (x : Option ℕ) → Still s → Good (follow_to f s n x)
   unfolding follow_to
-  good_follow s n (At t) g = record { after = g }
-  good_follow s n Nothing g = record { after = tt }
+  good_follow s n (Some t) g = record { after = g }
+  good_follow s n None g = record { after = tt }
 
-  good_limited : (s : State) (n o : ℕ) (x : Found) → Still s → Good (route_limited f s n o x)
+  good_limited : (s : State) (n o : ℕ) (x : Option ℕ) → Still s → Good (route_limited f s n o x)
   unfolding route_limited
-  good_limited s n o Nothing g = good_follow _ n _ g
-  good_limited s n o (At x) g = good_if _ (record { after = (good_follow _ n _ g).after }) (good_follow _ n _ g)
+  good_limited s n o None g = good_follow _ n _ g
+  good_limited s n o (Some x) g = good_if _ (record { after = (good_follow _ n _ g).after }) (good_follow _ n _ g)
 
   good_route : (s : State) (o : ℕ) (x : Output) → Still s → Good (route f s o x)
   unfolding route
   good_route s o x g = good_if _ (record { after = tt }) (good_limited _ _ o _ g)
 
-  good_take_by : (y : Found) (s : State) (x : BufferedSignal) {k : Next} → Missed k → Still s → Good (take_by f y s x k)
+  good_take_by : (y : Option ℕ) (s : State) (x : BufferedSignal) {k : Next} → Missed k → Still s → Good (take_by f y s x k)
   unfolding take_by
-  good_take_by (At t) s x m g = record { after = (good_route s _ _ g).after }
-  good_take_by Nothing s x rests g = record { after = g }
-  good_take_by Nothing s x consumes g = record { after = g }
+  good_take_by (Some t) s x m g = record { after = (good_route s _ _ g).after }
+  good_take_by None s x rests g = record { after = g }
+  good_take_by None s x consumes g = record { after = g }
 
   pub good_take : (s : State) (x : BufferedSignal) {k : Next} → Missed k → Still s → Good (take f s x k)
   good_take s x m g = good_take_by _ s x m g

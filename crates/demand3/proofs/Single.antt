@@ -1,5 +1,5 @@
 -- The proof of what holds of every single call (specs, Single).
-use Rattle.std.specs.Prelude.{◌≡◌, refl, false, not, ◌⊎◌, ℕ, ◌+◌, ◌≤◌, ◌<◌, eqb}
+use Rattle.std.specs.Prelude.{◌≡◌, refl, false, not, ◌⊎◌, ℕ, ◌+◌, ◌≤◌, ◌<◌, eqb, Ok, Err}
 use Rattle.std.proofs.Math.Path.{sym, ap}
 use Rattle.std.proofs.Common.{◌∙◌, arith, eqb-true, leb-true, ltb-true}
 use Rattle.std.proofs.Math.Bool.{true}
@@ -11,9 +11,7 @@ use Rattle.workflow.specs.Code.{none}
 use Rattle.workflow.specs.View.{Workflow}
 use Rattle.workflow.specs.Lookup.{node_of}
 use Rattle.workflow.specs.Sound.{Sound}
-use Rattle.graph.specs.declared.Verdict.{Verdict}
-use Rattle.graph.specs.declared.Verdict.TheVariants.{Fine, Broken}
-use Rattle.graph.specs.Verdict.{verdict}
+use Rattle.graph.specs.Verdict.{verdict, Verdict}
 use Rattle.graph.specs.Chain.{stage, stage_fine, rule_holds, Mild, mild_stages}
 use Rattle.graph.specs.Accepted.{rules, sound, verdict_mild}
 use Rattle.model.specs.declared.State.{State}
@@ -45,12 +43,12 @@ use Rattle.demand3.specs.Single.{Single, SizedLast}
 pub record Admitted (f : Workflow) (r : Last) (c : Call) : Type 0 where
   pub sheet : Sound f
   pub event : event_fits c.event c.mappings ≡ true
-  pub stage : record_stage f c r ≡ Fine
+  pub stage : record_stage f c r ≡ Ok tt
 
-pub admitted : (f : Workflow) (r : Last) (c : Call) → admission f r c ≡ Fine → Admitted f r c
+pub admitted : (f : Workflow) (r : Last) (c : Call) → admission f r c ≡ Ok tt → Admitted f r c
 unfolding admission
 admitted f r c e =
-    let v : verdict f c.ceilings ≡ Fine = stage_fine e (search stage depth 8) in
+    let v : verdict f c.ceilings ≡ Ok tt = stage_fine e (search stage depth 8) in
     record { sheet = sound f (rules f c.ceilings v); event = rule_holds event_unfit e (search stage depth 8); stage = stage_fine e (search stage depth 8) }
 
 -- A refusal before the step is none of 0 and 26.
@@ -190,13 +188,13 @@ module _ (f : Workflow) (sheet : Sound f) (c : Call) (s : State) (b : Begins f s
 
 single_by : (f : Workflow) (r : Last) (c : Call) (v : Verdict) → admission f r c ≡ v → SizedLast r → Single f c (begun_by v f r c) (transition_by v f r c)
 unfolding transition_by begun_by
-single_by f r c Fine e z =
+single_by f r c (Ok tt) e z =
     let a = admitted f r c e in
     let b = begins f r c z a in
     finishes f a.sheet c (given r c) b _ refl (checked_driven f a.sheet c.limits.microsteps c.event c.mappings (given r c) b.slotted.room b.tidy)
-single_by f r c (Broken k n) e z =
-    let m = (mild_admission f r c).mild k n e in
-    refuses f c 0 k n (omega arith) m.0 m.1
+single_by f r c (Err x) e z =
+    let m = (mild_admission f r c).mild x e in
+    refuses f c 0 x.rule x.item (omega arith) m.0 m.1
 
 -- EVERY CALL.
 pub every_call : (f : Workflow) (r : Last) (c : Call) → SizedLast r → Single f c (begun f r c) (transition f r c)

@@ -1,14 +1,12 @@
 -- A call comes to at most 130 entries and takes, and one that ends at rest counts them all.
 use Rattle.std.proofs.Math.Path.{◌≡◌, refl, sym}
 use Rattle.std.proofs.Common.{◌∙◌, ap}
-use Rattle.std.specs.Prelude.{false, ltb}
+use Rattle.std.specs.Prelude.{false, ltb, Option, Some, None}
 use Prim.Native.Nat.{ℕ, zero, suc, ◌+◌, ◌*◌, ◌≤◌}
 use native.Mathlib.Omega.{arith}
 use Rattle.laws.specs.Bool.{when◌then◌else◌, split, either}
 use Rattle.laws.specs.Settle.{settle, settle_rests}
 use Rattle.workflow.specs.View.{Workflow}
-use Rattle.workflow.specs.declared.Found.{Found}
-use Rattle.workflow.specs.declared.Found.TheVariants.{At, Nothing}
 use Rattle.model.specs.declared.State.{State}
 use Rattle.model.specs.declared.event.Event.{Event}
 use Rattle.model.specs.declared.event.Mappings.{Mappings}
@@ -33,10 +31,10 @@ module _ (f : Workflow) (limit : ℕ) (e : Event) (m : Mappings) where
   unfolding counting
   step_counting x v = either (λ (y : Machine). Step x y 1) (ltb limit (x.microsteps + 1)) (λ _. stopped_it refl refl) (λ _. made_it refl)
 
-  step_consume : (x : Machine) (y : Found) → Step x (consume_by f limit e m y x) (by_found y)
+  step_consume : (x : Machine) (y : Option ℕ) → Step x (consume_by f limit e m y x) (by_found y)
   unfolding consume_by
-  step_consume x (At i) = step_counting x _
-  step_consume x Nothing = made_it (omega arith)
+  step_consume x (Some i) = step_counting x _
+  step_consume x None = made_it (omega arith)
 
   step_by : (n : Next) (x : Machine) → Step x (advance_by f limit e m n x) (is_step f limit e m x.state n)
   unfolding advance_by
@@ -47,9 +45,9 @@ module _ (f : Workflow) (limit : ℕ) (e : Event) (m : Mappings) where
   step_by (Wants n i b) x = made_it (omega arith)
   step_by (Refuse k) x = made_it (omega arith)
 
-  cost_found : (s : State) (n : ℕ) (y : Found) → first_signal s n ≡ y → by_found y ≤ 2 * s.signal_count
-  cost_found s n (At i) h = omega (arith, first_inside s n i h)
-  cost_found s n Nothing h = omega arith
+  cost_found : (s : State) (n : ℕ) (y : Option ℕ) → first_signal s n ≡ y → by_found y ≤ 2 * s.signal_count
+  cost_found s n (Some i) h = omega (arith, first_inside s n i h)
+  cost_found s n None h = omega arith
 
   step_cost : (n : Next) (s : State) → is_step f limit e m s n ≤ cost n s.signal_count
   step_cost Rest s = omega arith

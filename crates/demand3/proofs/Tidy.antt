@@ -1,5 +1,5 @@
 -- Every move keeps the run check: what it hands back is tidy, and where it rests the run stands as it should.
-use Rattle.std.specs.Prelude.{◌≡◌, ◌⊎◌, Bool, false, List, ℕ, ◌+◌, ◌≤◌, ◌<◌, length, get_or, eqb, leb, ltb, Option, Some, None, Result, Ok, Err}
+use Rattle.std.specs.Prelude.{is_some, ◌≡◌, ◌⊎◌, Bool, false, List, ℕ, ◌+◌, ◌≤◌, ◌<◌, length, get_or, eqb, leb, ltb, Option, Some, None, Result, Ok, Err}
 use Rattle.std.proofs.Math.Path.{refl, sym}
 use Rattle.std.proofs.Common.{◌∙◌, ap, get_or-set_same}
 use Rattle.std.proofs.Math.Logic.{inl, inr}
@@ -14,10 +14,8 @@ use Rattle.laws.specs.Arrays.{Slots, slots_set, slots_none}
 use Rattle.workflow.specs.Code.{exhausted, activity}
 use Rattle.workflow.specs.Layout.{node_room}
 use Rattle.model.specs.Code.{largest, waiting, running, needs_intervention, run_completed, run_failed, scheduled, unknown, stuck, run_started}
-use Rattle.workflow.specs.declared.Found.{Found}
-use Rattle.workflow.specs.declared.Found.TheVariants.{At, Nothing}
 use Rattle.workflow.specs.View.{Workflow}
-use Rattle.workflow.specs.Lookup.{found, is_0_2, node_slots, node_of, route_of, routed, limit_of, declares}
+use Rattle.workflow.specs.Lookup.{is_0_2, node_slots, node_of, route_of, routed, limit_of, declares}
 use Rattle.workflow.specs.Sound.{Sound}
 use Rattle.model.specs.declared.ErrorInfo.{ErrorInfo}
 use Rattle.model.specs.declared.Output.{Output}
@@ -56,7 +54,7 @@ otherwise true x y e h = absurd (h e)
 otherwise false x y e h = e
 
 -- A signal's outcome that routes is routed.
-signal_routed : (b : Bool) (x : Found) → found (when b then Nothing else x) ≡ true → found x ≡ true
+signal_routed : (b : Bool) (x : Option ℕ) → is_some (when b then None else x) ≡ true → is_some x ≡ true
 unfolding when◌then◌else◌
 signal_routed true x e = absurd (false≢true e)
 signal_routed false x e = e
@@ -262,7 +260,7 @@ module _ (f : Workflow) where
   unfolding when◌then◌else◌
   no_streak_fits n = refl
 
-  one_more_fits : (n o k x : ℕ) → limit_of f n o ≡ At x → k < x → streak_fits f n (record { outcome = o; count = k + 1 }) ≡ true
+  one_more_fits : (n o k x : ℕ) → limit_of f n o ≡ Some x → k < x → streak_fits f n (record { outcome = o; count = k + 1 }) ≡ true
   one_more_fits n o k x e h = if_false _ _ _ (ne_eqb (k + 1) 0 (λ z. omega arith)) ∙ rw e (le-leb (k + 1) x (omega arith))
 
   module _ {s : State} {n : ℕ} (on : On s n) where
@@ -339,14 +337,14 @@ module _ (f : Workflow) where
     unfolding follow_to
     good_follow s n o h on = go (route_of f n o) refl h
       where
-        go : (x : Found) → route_of f n o ≡ x → found x ≡ true → Good (follow_to f s n x)
-        go (At t) e h = record { after = record { tidy = on.tidy; inside = sheet.targets n o t e; unended = on.unended } }
-        go Nothing e h = absurd (false≢true h)
+        go : (x : Option ℕ) → route_of f n o ≡ x → is_some x ≡ true → Good (follow_to f s n x)
+        go (Some t) e h = record { after = record { tidy = on.tidy; inside = sheet.targets n o t e; unended = on.unended } }
+        go None e h = absurd (false≢true h)
 
-    good_limited : (s : State) (n o : ℕ) (x : Found) → limit_of f n o ≡ x → routed f n o ≡ true → On s n → Good (route_limited f s n o x)
+    good_limited : (s : State) (n o : ℕ) (x : Option ℕ) → limit_of f n o ≡ x → routed f n o ≡ true → On s n → Good (route_limited f s n o x)
     unfolding route_limited
-    good_limited s n o Nothing e h on = good_follow _ n o h (keep_streak on no_streak (no_streak_fits n))
-    good_limited s n o (At x) e h on =
+    good_limited s n o None e h on = good_follow _ n o h (keep_streak on no_streak (no_streak_fits n))
+    good_limited s n o (Some x) e h on =
         either Good _
         (λ _. record { after = (good_follow (with_streak s n no_streak) n exhausted (sheet.exhausts n o x e) (keep_streak on no_streak (no_streak_fits n))).after })
         (λ g. good_follow _ n o h (keep_streak on _ (one_more_fits n o _ x e (leb-false _ _ g))))
@@ -378,10 +376,10 @@ module _ (f : Workflow) where
         (λ _. good_arrive (one_more_visit s n) n (keep_counted on) (visited_once s n on) b m)))
 
     -- TAKING A SIGNAL
-    good_take_by : (r : Found) (s : State) (x : BufferedSignal) (k : Next) → Missed k → Waiting s → (found r ≡ true → routed f s.position.node (signal_outcome x.outcome) ≡ true) → Good (take_by f r s x k)
+    good_take_by : (r : Option ℕ) (s : State) (x : BufferedSignal) (k : Next) → Missed k → Waiting s → (is_some r ≡ true → routed f s.position.node (signal_outcome x.outcome) ≡ true) → Good (take_by f r s x k)
     unfolding take_by
-    good_take_by (At t) s x k c w h = record { after = (good_route s (signal_outcome x.outcome) (Output.Handle x.«data») refl (h refl) w.on).after }
-    good_take_by Nothing s x k c w h = record { after = missed s k c w }
+    good_take_by (Some t) s x k c w h = record { after = (good_route s (signal_outcome x.outcome) (Output.Handle x.«data») refl (h refl) w.on).after }
+    good_take_by None s x k c w h = record { after = missed s k c w }
 
     pub good_take : (s : State) (x : BufferedSignal) (k : Next) → Missed k → Waiting s → Good (take_signal f s x k)
     good_take s x k c w = good_take_by _ s x k c w (signal_routed _ _)

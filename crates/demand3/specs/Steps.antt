@@ -1,13 +1,10 @@
 -- The microsteps of a call, told from what comes next and not from the driver's own count: the entries, one that a visit or activation limit stops included, and the
 -- takes, an arrival's included.
-use Rattle.std.specs.Prelude.{ℕ, zero, suc, ◌+◌}
+use Rattle.graph.specs.Verdict.{Verdict}
+use Rattle.std.specs.Prelude.{ℕ, zero, suc, ◌+◌, Option, Some, None, Ok, Err}
 use Rattle.laws.specs.Bool.{when◌then◌else◌}
 use Rattle.workflow.specs.View.{Workflow}
 use Rattle.workflow.specs.Lookup.{node_of}
-use Rattle.workflow.specs.declared.Found.{Found}
-use Rattle.workflow.specs.declared.Found.TheVariants.{At, Nothing}
-use Rattle.graph.specs.declared.Verdict.{Verdict}
-use Rattle.graph.specs.declared.Verdict.TheVariants.{Fine, Broken}
 use Rattle.model.specs.declared.State.{State}
 use Rattle.model.specs.declared.event.Event.{Event}
 use Rattle.model.specs.declared.event.Mappings.{Mappings}
@@ -19,9 +16,9 @@ use Rattle.kernel.specs.Drive.{Machine, advance, is_moving, started}
 use Rattle.kernel.specs.Call.{Last, admission, given}
 
 -- 1 if a stored signal is found, else 0.
-abbrev pub by_found : Found → ℕ
-by_found (At place) = 1
-by_found Nothing = 0
+abbrev pub by_found : Option ℕ → ℕ
+by_found (Some place) = 1
+by_found None = 0
 
 module _ (sheet : Workflow) (limit : ℕ) (event : Event) (mappings : Mappings) where
   -- 1 if what comes next is an entry or a take, else 0.
@@ -43,8 +40,8 @@ module _ (sheet : Workflow) (limit : ℕ) (event : Event) (mappings : Mappings) 
 
 -- Of a whole call, whatever its answer: none where it is turned away before its step. A call has at most 131 moves (kernel, Bounds).
 unfoldable pub begun_by : Verdict → Workflow → Last → Call → ℕ
-begun_by (Broken number item) sheet standing call = 0
-begun_by Fine sheet standing call =
+begun_by (Err broken) sheet standing call = 0
+begun_by (Ok tt) sheet standing call =
     steps sheet call.limits.microsteps call.event call.mappings 131 (started sheet call.limits.microsteps call.event call.mappings (given standing call))
 
 abbrev pub begun : Workflow → Last → Call → ℕ

@@ -1,6 +1,6 @@
 -- What an accepted sheet has, and which numbers no refused one is given.
 use Rattle.std.proofs.Math.Path.{◌≡◌}
-use Rattle.std.specs.Prelude.{refl, Bool, false, List, ℕ, ◌<◌, ltb}
+use Rattle.std.specs.Prelude.{refl, Bool, false, List, ℕ, ◌<◌, ltb, Option, Some, None, Ok}
 use Rattle.std.proofs.Common.{sym}
 use Rattle.std.proofs.Math.Bool.{true}
 use Rattle.std.proofs.lemmas.Bool.{false≢true}
@@ -17,15 +17,11 @@ use Rattle.workflow.specs.Lookup.{node_of, are, is_route, route_of, routed, is_l
 use Rattle.workflow.specs.Sound.{Sound}
 use Rattle.workflow.specs.declared.Route.{Route}
 use Rattle.graph.specs.declared.Ceilings.{Ceilings}
-use Rattle.workflow.specs.declared.Found.{Found}
-use Rattle.workflow.specs.declared.Found.TheVariants.{At, Nothing}
-use Rattle.graph.specs.declared.Verdict.{Verdict}
-use Rattle.graph.specs.declared.Verdict.TheVariants.{Fine, Broken}
 use Rattle.graph.specs.Lowest.{lowest, lowest_none}
 use Rattle.graph.specs.Form.{routes_at, formed_route, formed_limit, form}
 use Rattle.graph.specs.SearchLaws.{parts_of}
 use Rattle.graph.specs.Rules.{unrouted, leads_nowhere, breaks_8, breaks_9, breaks_12}
-use Rattle.graph.specs.Verdict.{action_verdict, actions_verdict, verdict}
+use Rattle.graph.specs.Verdict.{action_verdict, actions_verdict, verdict, Verdict, broken}
 use Rattle.graph.specs.Chain.{stage, rule_holds, none_breaks, Mild, mild_fine, mild_broken, mild_stages}
 
 other : (a b : Bool) → a or b ≡ true → a ≡ false → b ≡ true
@@ -37,11 +33,11 @@ other false b e h = e
 pub record Rules (f : Workflow) : Type 0 where
   pub formed : form f ≡ true
   pub rule_5 : ltb f.start f.node_count ≡ true
-  pub rule_8 : lowest f.node_count (breaks_8 f) ≡ Nothing
-  pub rule_9 : lowest f.node_count (breaks_9 f) ≡ Nothing
-  pub rule_12 : lowest f.node_count (breaks_12 f) ≡ Nothing
+  pub rule_8 : lowest f.node_count (breaks_8 f) ≡ None
+  pub rule_9 : lowest f.node_count (breaks_9 f) ≡ None
+  pub rule_12 : lowest f.node_count (breaks_12 f) ≡ None
 
-pub rules : (f : Workflow) (c : Ceilings) → verdict f c ≡ Fine → Rules f
+pub rules : (f : Workflow) (c : Ceilings) → verdict f c ≡ Ok tt → Rules f
 unfolding verdict
 rules f c e =
     record {
@@ -72,13 +68,13 @@ module _ (f : Workflow) (r : Rules f) where
         leb-false _ _ (implied _ _ (none_found (leads_nowhere f x.node) f.routes (stays x.node h) x i) (eq-eqb x.node x.node refl)),
       )
 
-  target_there : (n o t : ℕ) {w : Found} → Hit (is_route n o) (λ _ x. At x.target) Nothing f.routes w → w ≡ At t → t < f.node_count
+  target_there : (n o t : ℕ) {w : Option ℕ} → Hit (is_route n o) (λ _ x. Some x.target) None f.routes w → w ≡ Some t → t < f.node_count
   target_there n o t (hit j x i p) e =
       let z : x.target ≡ t = cc in
       omega (arith, (inside x i).1)
   target_there n o t (miss g) e = let z : ◌≡◌ {A = ℕ} 0 1 = cc in absurd (omega arith)
 
-  exhausted_routed : (n o k : ℕ) {w : Found} → Hit (is_limit n o) (λ _ x. At x.limit) Nothing f.limits w → w ≡ At k → routed f n exhausted ≡ true
+  exhausted_routed : (n o k : ℕ) {w : Option ℕ} → Hit (is_limit n o) (λ _ x. Some x.limit) None f.limits w → w ≡ Some k → routed f n exhausted ≡ true
   unfolding are formed_limit breaks_12
   exhausted_routed n o k (hit j x i p) e =
       let q = both _ _ p in
@@ -114,12 +110,12 @@ module _ (f : Workflow) (r : Rules f) where
       }
 
 -- No sheet is refused with 0 or 26.
-mild_if : (b : Bool) (n i : ℕ) {v : Verdict} → eqb n 0 ≡ false → eqb n 26 ≡ false → Mild v → Mild (when b then Broken n i else v)
+mild_if : (b : Bool) (n i : ℕ) {v : Verdict} → eqb n 0 ≡ false → eqb n 26 ≡ false → Mild v → Mild (when b then broken n i else v)
 unfolding when◌then◌else◌
 mild_if true n i x y m = mild_broken n i x y
 mild_if false n i x y m = m
 
-mild_hit : (f : Workflow) (c : Ceilings) {p : ℕ → Bool} {xs : List ℕ} {w : Verdict} → Hit p (λ _ a. action_verdict f c a) Fine xs w → Mild w
+mild_hit : (f : Workflow) (c : Ceilings) {p : ℕ → Bool} {xs : List ℕ} {w : Verdict} → Hit p (λ _ a. action_verdict f c a) (Ok tt) xs w → Mild w
 mild_hit f c (hit j a i t) = search (mild_if, mild_fine)
 mild_hit f c (miss g) = mild_fine
 

@@ -1,5 +1,5 @@
 -- How the sets of 14 and 15 are found: a mask of routes for each node, a walk that adds each mask once, and the lowest zero of a set.
-use Rattle.std.specs.Prelude.{◌≡◌, refl, Bool, true, false, not, ℕ, zero, suc, ◌+◌, ◌-◌, ◌/◌, ◌%◌, ◌^◌, ◌≤◌, ◌<◌, length, get_or, set, replicate, eqb, leb}
+use Rattle.std.specs.Prelude.{◌≡◌, refl, Bool, true, false, not, ℕ, zero, suc, ◌+◌, ◌-◌, ◌/◌, ◌%◌, ◌^◌, ◌≤◌, ◌<◌, length, get_or, set, replicate, eqb, leb, Option, Some, None}
 use Rattle.std.proofs.Common.{sym, ◌∙◌, pow-suc, arith, length-set, get_or-set_same, get_or-set_other, pow_pos, pow_mono, eq-eqb, ne_eqb, eqb-true}
 use Rattle.std.proofs.Math.Path.{ap}
 use Rattle.std.proofs.lemmas.Bool.{false≢true, eqb-false, not-true}
@@ -19,8 +19,6 @@ use Rattle.workflow.specs.View.{Workflow, workflow, route_at, route_rows}
 use Rattle.workflow.specs.Lookup.{node_of}
 use Rattle.workflow.specs.declared.Node.{Node}
 use Rattle.workflow.specs.declared.Route.{Route}
-use Rattle.workflow.specs.declared.Found.{Found}
-use Rattle.workflow.specs.declared.Found.TheVariants.{At, Nothing}
 use Rattle.graph.specs.Sets.{has, mark, turned, closed, with_ends}
 use Rattle.graph.specs.Bits.{has_suc, has_zero, has_none, has_or, has_and, has_mark, or_cases, or_left, or_right, lt_or_ge, same_set, Under, lacking, lacking_same}
 use Rattle.graph.specs.Lowest.{lowest, Least, is_least, is_none, least}
@@ -28,7 +26,7 @@ use Rattle.graph.specs.Accepted.{Rules, inside, sound}
 use Rattle.graph.specs.Reach.{Trail, first, next, repeated_trails, closed_whole}
 
 -- The lowest number below the count that a set lacks.
-abbrev pub missing : (count set : ℕ) → Found
+abbrev pub missing : (count set : ℕ) → Option ℕ
 missing k s = lowest k (λ n. not (has s n))
 
 -- The complete and fail nodes.
@@ -112,15 +110,15 @@ zeros_lt d s l o =
 
 -- THE LOWEST NUMBER that passes, and that a set lacks.
 module _ (k : ℕ) (p : ℕ → Bool) where
-  the_lowest : (z : ℕ) → z < k → p z ≡ true → ((n : ℕ) → n < z → p n ≡ false) → {x : Found} → Least k p 0 x → At z ≡ x
+  the_lowest : (z : ℕ) → z < k → p z ≡ true → ((n : ℕ) → n < z → p n ≡ false) → {x : Option ℕ} → Least k p 0 x → Some z ≡ x
   the_lowest z b t f (is_least y c u g) =
-      ap At
+      ap Some
       (⊎_elim (λ (h : z < y). absurd (false≢true (sym (g z (omega arith) h) ∙ t)))
       (λ (h : y ≤ z). ⊎_elim (λ (j : y < z). absurd (false≢true (sym (f y j) ∙ u))) (λ (j : z ≤ y). omega arith) (lt_or_ge y z))
       (lt_or_ge z y))
   the_lowest z b t f (is_none g) = absurd (false≢true (sym (g z (omega arith) b) ∙ t))
 
-  no_lowest : ((n : ℕ) → n < k → p n ≡ false) → {x : Found} → Least k p 0 x → Nothing ≡ x
+  no_lowest : ((n : ℕ) → n < k → p n ≡ false) → {x : Option ℕ} → Least k p 0 x → None ≡ x
   no_lowest f (is_least y c u g) = absurd (false≢true (sym (f y c) ∙ u))
   no_lowest f (is_none g) = refl
 
@@ -131,12 +129,12 @@ module _ (k s : ℕ) (low : s < 2 ^ 64) (few : k ≤ 64) where
   before_zero : (n : ℕ) → n < zero_of → n < 64 → not (has s n) ≡ false
   before_zero n h b = sym (has_not 64 s n low b) ∙ zeros_below 64 (2 ^ 64 - 1 - s) n h
 
-  pub missing_at : zero_of < k → At zero_of ≡ missing k s
+  pub missing_at : zero_of < k → Some zero_of ≡ missing k s
   missing_at h =
       the_lowest k (λ n. not (has s n)) zero_of h (sym (has_not 64 s zero_of low (omega arith)) ∙ zeros_at 64 (2 ^ 64 - 1 - s) (omega arith))
       (λ n b. before_zero n b (omega arith)) (least k (λ n. not (has s n)))
 
-  pub missing_none : k ≤ zero_of → Nothing ≡ missing k s
+  pub missing_none : k ≤ zero_of → None ≡ missing k s
   missing_none h = no_lowest k (λ n. not (has s n)) (λ n b. before_zero n (omega arith) (omega arith)) (least k (λ n. not (has s n)))
 
 -- ENDS, node by node.

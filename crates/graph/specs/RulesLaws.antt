@@ -1,5 +1,5 @@
 -- What the code of the rules looks at: the rows of one node or action, and outcomes as marks.
-use Rattle.std.specs.Prelude.{◌≡◌, Bool, not, List, [], ◌∷◌, get_or, length, set, replicate, ltb, leb}
+use Rattle.std.specs.Prelude.{◌≡◌, Bool, not, List, [], ◌∷◌, get_or, length, set, replicate, ltb, leb, Some, None}
 use Rattle.std.proofs.Math.Path.{refl, sym, ap}
 use Rattle.std.proofs.Common.{◌∙◌, get_or-set_same, get_or-set_other}
 use Rattle.std.proofs.Math.Bool.{true, false}
@@ -20,7 +20,6 @@ use Rattle.workflow.specs.Layout as layout
 use Rattle.workflow.specs.View.{Workflow, workflow, at, cell, no_node, node_at, route_at, limit_at, declared_at, node_rows, route_rows, limit_rows, declared_rows}
 use Rattle.workflow.specs.RowLaws.{route_row, limit_row, declared_row, found_first}
 use Rattle.workflow.specs.Lookup.{is_0_2, node_of, policy_of, are, is_route, route_of, routed, is_declared, declares}
-use Rattle.workflow.specs.declared.Found.TheVariants.{At, Nothing}
 use Rattle.graph.specs.Lowest.{lowest}
 use Rattle.graph.specs.Form.{formed_route, formed_limit, formed_declared, form}
 use Rattle.graph.specs.Rules.{within, breaks_1, of_action, reserved, declared_twice, breaks_7, of_node, unrouted, may_route_exhausted, extra, leads_nowhere, breaks_8, breaks_9, limit_of_node, one_above, bad_limit, breaks_12}
@@ -449,10 +448,10 @@ module _ (w : List ℕ) where
   unfolding ◌and◌
   with_params i h f = rw (params_at i h, f)
 
-  pub no_params : is_0_2 (workflow w) ≡ true → Nothing ≡ lowest (at w layout.node_count) (breaks_1 (workflow w))
+  pub no_params : is_0_2 (workflow w) ≡ true → None ≡ lowest (at w layout.node_count) (breaks_1 (workflow w))
   unfolding ◌and◌
   no_params e =
-      first_none (breaks_1 (workflow w)) (λ _ n. At n) Nothing (λ n. n) (at w layout.node_count) (λ _. false) (λ j h. rw e) {c = at w layout.node_count}
+      first_none (breaks_1 (workflow w)) (λ _ n. Some n) None (λ n. n) (at w layout.node_count) (λ _. false) (λ j h. rw e) {c = at w layout.node_count}
       (the_cut (record { within = omega arith; below = λ j h. refl; fails = λ h. absurd (omega arith) }))
       (omega arith)
 

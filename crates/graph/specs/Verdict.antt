@@ -1,49 +1,49 @@
 -- The verdict on a sheet: the first broken rule, with the lowest node or action that breaks it.
-use Rattle.std.specs.Prelude.{Bool, true, false, List, [], ◌∷◌, ℕ, ltb, eqb}
+use Rattle.std.specs.Prelude.{Bool, List, [], ◌∷◌, ℕ, ltb, eqb, Option, Some, None, Result, Ok, Err, is_err}
 use Rattle.laws.specs.Bool.{when◌then◌else◌, ◌and◌, ◌or◌}
 use Rattle.laws.specs.Rows.{span}
 use Rattle.laws.specs.First.{first}
 use Rattle.workflow.specs.Code.{none, format_0_1, reconcilable}
 use Rattle.workflow.specs.View.{Workflow}
 use Rattle.workflow.specs.Lookup.{is_0_2, policy_of}
-use Rattle.workflow.specs.declared.Found.{Found}
-use Rattle.workflow.specs.declared.Found.TheVariants.{At, Nothing}
 use Rattle.graph.specs.declared.Ceilings.{Ceilings}
-use Rattle.graph.specs.declared.Verdict.{Verdict}
-use Rattle.graph.specs.declared.Verdict.TheVariants.{Fine, Broken}
+use Rattle.graph.specs.declared.Broken.{Broken}
 use Rattle.graph.specs.Lowest.{lowest}
 use Rattle.graph.specs.Form.{form}
 use Rattle.graph.specs.Rules.{within, breaks_1, breaks_7, breaks_8, breaks_9, breaks_12}
 use Rattle.graph.specs.Sets.{breaks_14, breaks_15}
 
+-- A stage of a call passes, or it is broken: a rule with its item.
+abbrev pub Verdict : Type 0
+Verdict = Result (Unit {0}) Broken
+
+abbrev pub broken : (rule item : ℕ) → Verdict
+broken rule item = Err (record { rule = rule; item = item })
+
 -- A rule of the whole sheet or of a call, and one whose item is the lowest that breaks it.
 abbrev pub rule : (number : ℕ) → (holds : Bool) → Verdict
-rule number holds = when holds then Fine else Broken number none
+rule number holds = when holds then Ok tt else broken number none
 
-unfoldable pub rule_at : (number : ℕ) → (broken_by : Found) → Verdict
-rule_at number (At item) = Broken number item
-rule_at number Nothing = Fine
-
-unfoldable pub is_broken : Verdict → Bool
-is_broken Fine = false
-is_broken (Broken number item) = true
+unfoldable pub rule_at : (number : ℕ) → (broken_by : Option ℕ) → Verdict
+rule_at number (Some item) = broken number item
+rule_at number None = Ok tt
 
 -- The first stage that is broken.
 unfoldable pub first_broken : List Verdict → Verdict
-first_broken [] = Fine
-first_broken (Fine ∷ later) = first_broken later
-first_broken (Broken number item ∷ later) = Broken number item
+first_broken [] = Ok tt
+first_broken (Ok tt ∷ later) = first_broken later
+first_broken (Err first ∷ later) = Err first
 
 -- Per action: 16 (reconcilable), then 7.
 abbrev pub action_verdict : Workflow → Ceilings → (action : ℕ) → Verdict
 action_verdict sheet ceilings action =
-    when eqb (policy_of sheet action).effect reconcilable then Broken 16 action else
-    when breaks_7 sheet ceilings.attempts action then Broken 7 action else
-    Fine
+    when eqb (policy_of sheet action).effect reconcilable then broken 16 action else
+    when breaks_7 sheet ceilings.attempts action then broken 7 action else
+    Ok tt
 
 unfoldable pub actions_verdict : Workflow → Ceilings → Verdict
 actions_verdict sheet ceilings =
-    first (λ action. is_broken (action_verdict sheet ceilings action)) (λ _ action. action_verdict sheet ceilings action) Fine
+    first (λ action. is_err (action_verdict sheet ceilings action)) (λ _ action. action_verdict sheet ceilings action) (Ok tt)
     0 (span (λ n. n) 0 sheet.action_count)
 
 -- The stages, in the order of document 01: the form, what a formed sheet is held to, its graph, and where its routes lead.

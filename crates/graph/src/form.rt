@@ -6,7 +6,7 @@ ghost use Rattle.graph.specs.Form.{counts_fit, formed_node, routes_at, formed_ro
 ghost use Rattle.graph.specs.Verdict.{rule};
 ghost use Rattle.graph.specs.FormLaws.{nodes_formed, actions_formed, routes_formed, limits_formed, declared_formed, formed_row, formed_rows, rows_ascend, rows_rise};
 
-use crate::{Verdict, rule};
+use crate::{Broken, rule};
 use workflow::layout::NUMBERS;
 use workflow::{
     Declared, Limit, Node, Route, action_at, capped, code, declared_at, layout, limit_at, node_at,
@@ -325,7 +325,7 @@ fn is_formed(w: &[u32; NUMBERS]) -> bool
     is_blank(w)
 }
 
-pub fn rule_20(w: &[u32; NUMBERS]) -> Verdict
+pub fn rule_20(w: &[u32; NUMBERS]) -> Result<(), Broken>
     ensures { result ≡ rule 20 (form (workflow w.now)) }
 {
     rule(20, is_formed(w))

@@ -9,12 +9,12 @@ mod search;
 ghost use Rattle.std.specs.Prelude.{◌≡◌, true};
 ghost use Rattle.workflow.specs.View.{workflow};
 ghost use Rattle.graph.specs.Form.{form};
-ghost use Rattle.graph.specs.Verdict.{rule, rule_at, is_broken, first_broken, reach_stages, graph_stages, formed_stages, verdict};
+ghost use Rattle.graph.specs.Verdict.{rule, rule_at, first_broken, reach_stages, graph_stages, formed_stages, verdict};
 ghost use Rattle.graph.specs.Accepted.{Rules};
 ghost use Rattle.graph.specs.Stages.{Started};
 
+use workflow::code;
 use workflow::layout::NUMBERS;
-use workflow::{Found, code};
 
 // The largest numbers that a sheet may ask for.
 #[derive(Clone, Copy)]
@@ -25,115 +25,73 @@ pub struct Ceilings {
     pub attempts: u32,
 }
 
-// The first broken rule with its item, or none.
-#[derive(Clone, Copy)]
-pub enum Verdict {
-    Fine,
-    Broken { rule: u32, item: u32 },
+// A broken rule with its item.
+#[derive(Clone, Copy, Debug, PartialEq, Eq)]
+pub struct Broken {
+    pub rule: u32,
+    pub item: u32,
 }
 
 // A rule of the whole sheet, or of the call.
-pub fn rule(number: u32, holds: bool) -> Verdict
+pub fn rule(number: u32, holds: bool) -> Result<(), Broken>
     ensures { result ≡ rule number holds }
 {
     if holds {
-        return Verdict::Fine;
+        return Ok(());
     }
-    Verdict::Broken {
+    Err(Broken {
         rule: number,
         item: code::NONE,
-    }
+    })
 }
 
 // A rule whose item is the lowest node that breaks it.
-fn rule_at(number: u32, found: Found) -> Verdict
+fn rule_at(number: u32, found: Option<u32>) -> Result<(), Broken>
     ensures { result ≡ rule_at number found }
 {
     match found {
-        Found::At(item) => Verdict::Broken { rule: number, item },
-        Found::Nothing => Verdict::Fine,
-    }
-}
-
-pub fn is_broken(v: Verdict) -> bool
-    ensures { result ≡ is_broken v }
-{
-    match v {
-        Verdict::Fine => false,
-        Verdict::Broken { rule: _, item: _ } => true,
+        Some(item) => Err(Broken { rule: number, item }),
+        None => Ok(()),
     }
 }
 
 // The stages, in the order of the definition.
 
-fn reach_verdict(w: &[u32; NUMBERS]) -> Verdict
+fn reach_verdict(w: &[u32; NUMBERS]) -> Result<(), Broken>
     requires { Rules (workflow w.now) }
     ensures { result ≡ first_broken (reach_stages (workflow w.now)) }
 {
-    let unreached = reach::rule_14(w);
-    if is_broken(unreached) {
-        return unreached;
-    }
+    reach::rule_14(w)?;
     reach::rule_15(w)
 }
 
-fn graph_verdict(w: &[u32; NUMBERS]) -> Verdict
+fn graph_verdict(w: &[u32; NUMBERS]) -> Result<(), Broken>
     requires { Started (workflow w.now) }
     ensures { result ≡ first_broken (graph_stages (workflow w.now)) }
 {
-    let activities = rules::rule_8(w);
-    if is_broken(activities) {
-        return activities;
-    }
-    let awaits = rules::rule_9(w);
-    if is_broken(awaits) {
-        return awaits;
-    }
-    let limits = rules::rule_12(w);
-    if is_broken(limits) {
-        return limits;
-    }
+    rules::rule_8(w)?;
+    rules::rule_9(w)?;
+    rules::rule_12(w)?;
     reach_verdict(w)
 }
 
-fn formed_verdict(w: &[u32; NUMBERS], c: Ceilings) -> Verdict
+fn formed_verdict(w: &[u32; NUMBERS], c: Ceilings) -> Result<(), Broken>
     requires { form (workflow w.now) ≡ true }
     ensures { result ≡ first_broken (formed_stages (workflow w.now) c) }
 {
-    let format = rules::rule_1(w);
-    if is_broken(format) {
-        return format;
-    }
-    let params = rules::rule_1_params(w);
-    if is_broken(params) {
-        return params;
-    }
-    let nodes = rules::rule_3(w, c);
-    if is_broken(nodes) {
-        return nodes;
-    }
-    let start = rules::rule_5(w);
-    if is_broken(start) {
-        return start;
-    }
-    let limits = rules::rule_6(w, c);
-    if is_broken(limits) {
-        return limits;
-    }
-    let actions = rules::actions_verdict(w, c);
-    if is_broken(actions) {
-        return actions;
-    }
+    rules::rule_1(w)?;
+    rules::rule_1_params(w)?;
+    rules::rule_3(w, c)?;
+    rules::rule_5(w)?;
+    rules::rule_6(w, c)?;
+    rules::actions_verdict(w, c)?;
     graph_verdict(w)
 }
 
 // The verdict on a sheet: every array of numbers has one.
-pub fn validate(w: &[u32; NUMBERS], c: Ceilings) -> Verdict
+pub fn validate(w: &[u32; NUMBERS], c: Ceilings) -> Result<(), Broken>
     ensures { result ≡ verdict (workflow w.now) c }
 {
-    let form = form::rule_20(w);
-    if is_broken(form) {
-        return form;
-    }
+    form::rule_20(w)?;
     formed_verdict(w, c)
 }

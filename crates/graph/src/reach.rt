@@ -7,9 +7,9 @@ ghost use Rattle.graph.specs.Accepted.{Rules};
 ghost use Rattle.graph.specs.Sets.{turned, closed, breaks_14, breaks_15};
 ghost use Rattle.graph.specs.ReachLaws.{missing, add_end, ends, masks};
 
-use crate::{Verdict, rule_at};
+use crate::{Broken, rule_at};
 use workflow::layout::NUMBERS;
-use workflow::{Found, Route, capped, code, is_0_2, layout, node_of, route_at};
+use workflow::{Route, capped, code, is_0_2, layout, node_of, route_at};
 
 fn bit(n: u32) -> u64
     requires { n < 64 }
@@ -94,20 +94,20 @@ fn ends(w: &[u32; NUMBERS]) -> u64
 }
 
 // The lowest node that a set lacks: the lowest zero.
-fn missing(set: u64, count: u32) -> Found
+fn missing(set: u64, count: u32) -> Option<u32>
     requires { count ≤ 64 }
     ensures { result ≡ missing count set }
 {
     let n = u64::trailing_zeros(!set);
     if n < count {
-        return Found::At(n);
+        return Some(n);
     }
-    Found::Nothing
+    None
 }
 
 // Rules 14 and 15, in format 2.
 
-fn lowest_14(w: &[u32; NUMBERS]) -> Found
+fn lowest_14(w: &[u32; NUMBERS]) -> Option<u32>
     requires { Rules (workflow w.now) }
     ensures { result ≡ lowest (workflow w.now).node_count (breaks_14 (workflow w.now)) }
 {
@@ -115,17 +115,17 @@ fn lowest_14(w: &[u32; NUMBERS]) -> Found
         let reached = closed(w, false, bit(w[layout::START]));
         return missing(reached, w[layout::NODE_COUNT]);
     }
-    Found::Nothing
+    None
 }
 
-pub fn rule_14(w: &[u32; NUMBERS]) -> Verdict
+pub fn rule_14(w: &[u32; NUMBERS]) -> Result<(), Broken>
     requires { Rules (workflow w.now) }
     ensures { result ≡ rule_at 14 (lowest (workflow w.now).node_count (breaks_14 (workflow w.now))) }
 {
     rule_at(14, lowest_14(w))
 }
 
-fn lowest_15(w: &[u32; NUMBERS]) -> Found
+fn lowest_15(w: &[u32; NUMBERS]) -> Option<u32>
     requires { Rules (workflow w.now) }
     ensures { result ≡ lowest (workflow w.now).node_count (breaks_15 (workflow w.now)) }
 {
@@ -133,10 +133,10 @@ fn lowest_15(w: &[u32; NUMBERS]) -> Found
         let ending = closed(w, true, ends(w));
         return missing(ending, w[layout::NODE_COUNT]);
     }
-    Found::Nothing
+    None
 }
 
-pub fn rule_15(w: &[u32; NUMBERS]) -> Verdict
+pub fn rule_15(w: &[u32; NUMBERS]) -> Result<(), Broken>
     requires { Rules (workflow w.now) }
     ensures { result ≡ rule_at 15 (lowest (workflow w.now).node_count (breaks_15 (workflow w.now))) }
 {

@@ -10,13 +10,13 @@ ghost use Rattle.workflow.specs.Lookup.{is_0_2};
 ghost use Rattle.graph.specs.Lowest.{lowest};
 ghost use Rattle.graph.specs.Form.{form};
 ghost use Rattle.graph.specs.Rules.{within, one_above, may_route_exhausted, unrouted, extra, breaks_1, breaks_7, breaks_8, breaks_9, breaks_12};
-ghost use Rattle.graph.specs.Verdict.{rule, rule_at, is_broken, action_verdict, actions_verdict};
+ghost use Rattle.graph.specs.Verdict.{rule, rule_at, action_verdict, actions_verdict};
 ghost use Rattle.graph.specs.RulesLaws.{some_in, Outcomes, marked, unmarked, nowhere_at, again, reserved_marks, out_of_range, bad_row, RoutesOf, LimitsOf, DeclaredOf, misroutes, routes_exhausted, misses, breaks};
 
 use crate::search::{rows_before, rows_end};
-use crate::{Ceilings, Verdict, is_broken, rule, rule_at};
+use crate::{Broken, Ceilings, rule, rule_at};
 use workflow::layout::NUMBERS;
-use workflow::{Found, capped, code, is_0_2, layout, node_of, policy_of};
+use workflow::{capped, code, is_0_2, layout, node_of, policy_of};
 
 // Outcomes are below 255.
 const OUTCOMES: usize = 256;
@@ -67,33 +67,33 @@ fn has_unmarked(
 // Rules 1, 3, 5 and 6.
 
 // 1: a known format.
-pub fn rule_1(w: &[u32; NUMBERS]) -> Verdict
+pub fn rule_1(w: &[u32; NUMBERS]) -> Result<(), Broken>
     ensures { result ≡ rule 1 (eqb (workflow w.now).format format_0_1 or is_0_2 (workflow w.now)) }
 {
     rule(1, (w[layout::FORMAT] == code::FORMAT_0_1) | is_0_2(w))
 }
 
 // 1: no params in format 1.
-fn lowest_with_params(w: &[u32; NUMBERS]) -> Found
+fn lowest_with_params(w: &[u32; NUMBERS]) -> Option<u32>
     requires { form (workflow w.now) ≡ true }
     ensures { result ≡ lowest (workflow w.now).node_count (breaks_1 (workflow w.now)) }
 {
     if is_0_2(w) {
-        return Found::Nothing;
+        return None;
     }
     let n = capped(w[layout::NODE_COUNT], layout::NODES);
     let mut i: usize = 0;
     while i < n {
         if w[layout::NODE_HAS_PARAMS + i] == 1 {
             let node = i as u32;
-            return Found::At(node);
+            return Some(node);
         }
         i += 1;
     }
-    Found::Nothing
+    None
 }
 
-pub fn rule_1_params(w: &[u32; NUMBERS]) -> Verdict
+pub fn rule_1_params(w: &[u32; NUMBERS]) -> Result<(), Broken>
     requires { form (workflow w.now) ≡ true }
     ensures { result ≡ rule_at 1 (lowest (workflow w.now).node_count (breaks_1 (workflow w.now))) }
 {
@@ -108,21 +108,21 @@ fn is_within(most: u32, x: u32) -> bool
 }
 
 // 3: there are nodes, and no more than there may be.
-pub fn rule_3(w: &[u32; NUMBERS], c: Ceilings) -> Verdict
+pub fn rule_3(w: &[u32; NUMBERS], c: Ceilings) -> Result<(), Broken>
     ensures { result ≡ rule 3 (within c.nodes (workflow w.now).node_count) }
 {
     rule(3, is_within(c.nodes, w[layout::NODE_COUNT]))
 }
 
 // 5: the start is there.
-pub fn rule_5(w: &[u32; NUMBERS]) -> Verdict
+pub fn rule_5(w: &[u32; NUMBERS]) -> Result<(), Broken>
     ensures { result ≡ rule 5 (ltb (workflow w.now).start (workflow w.now).node_count) }
 {
     rule(5, w[layout::START] < w[layout::NODE_COUNT])
 }
 
 // 6: the limits are in range.
-pub fn rule_6(w: &[u32; NUMBERS], c: Ceilings) -> Verdict
+pub fn rule_6(w: &[u32; NUMBERS], c: Ceilings) -> Result<(), Broken>
     ensures { result ≡ rule 6 (within c.visits (workflow w.now).max_visits_per_node and within c.activations (workflow w.now).max_activations) }
 {
     let holds = is_within(c.visits, w[layout::MAX_VISITS_PER_NODE])
@@ -167,27 +167,33 @@ fn breaks_7(w: &[u32; NUMBERS], most: u32, action: u32, from: usize, to: usize) 
     !is_within(most, x.max_attempts)
 }
 
-fn action_verdict(w: &[u32; NUMBERS], c: Ceilings, action: u32, from: usize, to: usize) -> Verdict
+fn action_verdict(
+    w: &[u32; NUMBERS],
+    c: Ceilings,
+    action: u32,
+    from: usize,
+    to: usize,
+) -> Result<(), Broken>
     requires { DeclaredOf w.now action from to }
     ensures { result ≡ action_verdict (workflow w.now) c action }
 {
     let x = policy_of(w, action);
     if x.effect == code::RECONCILABLE {
-        return Verdict::Broken {
+        return Err(Broken {
             rule: 16,
             item: action,
-        };
+        });
     }
     if breaks_7(w, c.attempts, action, from, to) {
-        return Verdict::Broken {
+        return Err(Broken {
             rule: 7,
             item: action,
-        };
+        });
     }
-    Verdict::Fine
+    Ok(())
 }
 
-pub fn actions_verdict(w: &[u32; NUMBERS], c: Ceilings) -> Verdict
+pub fn actions_verdict(w: &[u32; NUMBERS], c: Ceilings) -> Result<(), Broken>
     requires { form (workflow w.now) ≡ true }
     ensures { result ≡ actions_verdict (workflow w.now) c }
 {
@@ -198,14 +204,11 @@ pub fn actions_verdict(w: &[u32; NUMBERS], c: Ceilings) -> Verdict
     while i < n {
         let action = i as u32;
         let to = rows_end(w, layout::DECLARED_ACTION, from, k, action);
-        let v = action_verdict(w, c, action, from, to);
-        if is_broken(v) {
-            return v;
-        }
+        action_verdict(w, c, action, from, to)?;
         from = to;
         i += 1;
     }
-    Verdict::Fine
+    Ok(())
 }
 
 // Rule 8.
@@ -422,7 +425,7 @@ fn breaks(w: &[u32; NUMBERS], rule: u32, node: u32, from: usize, to: usize) -> b
     breaks_12(w, node, from, to)
 }
 
-fn lowest_breaking(w: &[u32; NUMBERS], rule: u32) -> Found
+fn lowest_breaking(w: &[u32; NUMBERS], rule: u32) -> Option<u32>
     requires { form (workflow w.now) ≡ true }
     ensures { result ≡ lowest (workflow w.now).node_count (breaks (workflow w.now) rule) }
 {
@@ -434,29 +437,29 @@ fn lowest_breaking(w: &[u32; NUMBERS], rule: u32) -> Found
         let node = i as u32;
         let to = rows_end(w, layout::ROUTE_NODE, from, k, node);
         if breaks(w, rule, node, from, to) {
-            return Found::At(node);
+            return Some(node);
         }
         from = to;
         i += 1;
     }
-    Found::Nothing
+    None
 }
 
-pub fn rule_8(w: &[u32; NUMBERS]) -> Verdict
+pub fn rule_8(w: &[u32; NUMBERS]) -> Result<(), Broken>
     requires { form (workflow w.now) ≡ true }
     ensures { result ≡ rule_at 8 (lowest (workflow w.now).node_count (breaks_8 (workflow w.now))) }
 {
     rule_at(8, lowest_breaking(w, 8))
 }
 
-pub fn rule_9(w: &[u32; NUMBERS]) -> Verdict
+pub fn rule_9(w: &[u32; NUMBERS]) -> Result<(), Broken>
     requires { form (workflow w.now) ≡ true }
     ensures { result ≡ rule_at 9 (lowest (workflow w.now).node_count (breaks_9 (workflow w.now))) }
 {
     rule_at(9, lowest_breaking(w, 9))
 }
 
-pub fn rule_12(w: &[u32; NUMBERS]) -> Verdict
+pub fn rule_12(w: &[u32; NUMBERS]) -> Result<(), Broken>
     requires { form (workflow w.now) ≡ true }
     ensures { result ≡ rule_at 12 (lowest (workflow w.now).node_count (breaks_12 (workflow w.now))) }
 {

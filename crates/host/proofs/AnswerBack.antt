@@ -37,11 +37,11 @@ unfolding params_numbers when◌then◌else◌
 params_back None rest = refl
 params_back (Some x) rest = refl
 
-order_back : (a b : ℕ) (x : Order) (rest : List ℕ) → order_from (a ∷ b ∷ (order_numbers x ++ rest)) ≡ x
+order_back : (a b : ℕ) (x : Option Order) (rest : List ℕ) → order_from (a ∷ b ∷ (order_numbers x ++ rest)) ≡ x
 unfolding order_from order_numbers when◌then◌else◌
-order_back a b Order.Nothing rest = refl
-order_back a b (Order.Schedule x) rest = rw (params_back x.params rest)
-order_back a b (Order.Retry x) rest = refl
+order_back a b None rest = refl
+order_back a b (Some (Order.Schedule x)) rest = rw (params_back x.params rest)
+order_back a b (Some (Order.Retry x)) rest = refl
 
 -- The numbers of the state, whose arrays are whole.
 length_state : (a : code.Answer) (s : State) → Whole s → length (state_numbers a s) ≡ record_length

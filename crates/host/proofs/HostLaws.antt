@@ -1,6 +1,6 @@
 -- What a receipt tells of what was lent.
 use Rattle.std.proofs.Math.Path.{◌≡◌, sym}
-use Rattle.std.specs.Prelude.{refl, Bool, true, false, List, [], ◌∷◌, ℕ, ◌≤◌, ◌<◌, ltb, eqb}
+use Rattle.std.specs.Prelude.{refl, Bool, true, false, List, [], ◌∷◌, ℕ, ◌≤◌, ◌<◌, ltb, eqb, Ok, Err}
 use Rattle.std.proofs.Common.{◌∙◌, ap, arith}
 use Rattle.std.proofs.Math.Bool.{not}
 use Rattle.std.proofs.Math.ListN.{length, get_or, set}
@@ -11,9 +11,7 @@ use Rattle.workflow.specs.Layout.{numbers as sheet_length}
 use Rattle.workflow.specs.View.{workflow}
 use Rattle.model.specs.declared.State.{State}
 use Rattle.graph.specs.declared.Ceilings.{Ceilings}
-use Rattle.graph.specs.declared.Verdict.{Verdict}
-use Rattle.graph.specs.declared.Verdict.TheVariants.{Fine, Broken}
-use Rattle.graph.specs.Verdict.{verdict}
+use Rattle.graph.specs.Verdict.{verdict, Verdict}
 use Rattle.kernel.specs.declared.Decision.{Decision}
 use Rattle.kernel.specs.declared.Call.{Call}
 use Rattle.kernel.specs.Call.{given_record, transition}
@@ -130,8 +128,8 @@ module _ (w : List ℕ) (n : ℕ) (c r b : List ℕ) where
 -- A VERDICT'S two numbers.
 length_verdict : (v : Verdict) → length (verdict_numbers v) ≡ verdict_length
 unfolding verdict_numbers
-length_verdict Fine = refl
-length_verdict (Broken number item) = refl
+length_verdict (Ok tt) = refl
+length_verdict (Err x) = refl
 
 two_of : (l : List ℕ) → length l ≡ 2 → l ≡ get_or l 0 0 ∷ get_or l 1 0 ∷ []
 two_of [] e = absurd (omega arith)

@@ -36,11 +36,11 @@ unfolding params_numbers
 length_params None = refl
 length_params (Some x) = refl
 
-length_order : (x : Order) → length (order_numbers x) ≡ 9
+length_order : (x : Option Order) → length (order_numbers x) ≡ 9
 unfolding order_numbers
-length_order Order.Nothing = refl
-length_order (Order.Schedule x) = rw (length_params x.params)
-length_order (Order.Retry x) = refl
+length_order None = refl
+length_order (Some (Order.Schedule x)) = rw (length_params x.params)
+length_order (Some (Order.Retry x)) = refl
 
 pub length_answer : (x : Answer) → length (answer_numbers x) ≡ answer_noted
 unfolding answer_numbers

@@ -1,13 +1,11 @@
 -- What the exported functions answer.
-use Rattle.std.specs.Prelude.{◌≡◌, not, List, [], ◌∷◌, ℕ, ◌^◌, ◌≤◌, ◌<◌, length, get_or, ltb, eqb}
+use Rattle.std.specs.Prelude.{◌≡◌, not, List, [], ◌∷◌, ℕ, ◌^◌, ◌≤◌, ◌<◌, length, get_or, ltb, eqb, Ok, Err}
 use Rattle.laws.specs.Bool.{when◌then◌else◌, ◌and◌}
 use Rattle.laws.specs.Splice.{splice}
 use Rattle.workflow.specs.Layout.{numbers as sheet_length}
 use Rattle.workflow.specs.View.{workflow}
 use Rattle.graph.specs.declared.Ceilings.{Ceilings}
-use Rattle.graph.specs.declared.Verdict.{Verdict}
-use Rattle.graph.specs.declared.Verdict.TheVariants.{Fine, Broken}
-use Rattle.graph.specs.Verdict.{verdict}
+use Rattle.graph.specs.Verdict.{verdict, Verdict}
 use Rattle.kernel.specs.declared.Decision.{Decision}
 use Rattle.kernel.specs.Call.{given_record, transition}
 use Rattle.kernel.specs.Decision.{decision_of}
@@ -53,8 +51,8 @@ verdict_receipt sheet_size room =
     when ltb room verdict_length then short_buffer else written
 
 unfoldable pub verdict_numbers : Verdict → List ℕ
-verdict_numbers Fine = 0 ∷ 0 ∷ []
-verdict_numbers (Broken number item) = number ∷ item ∷ []
+verdict_numbers (Ok tt) = 0 ∷ 0 ∷ []
+verdict_numbers (Err broken) = broken.rule ∷ broken.item ∷ []
 
 unfoldable pub judged : (sheet : List ℕ) (sheet_size : ℕ) → Ceilings → (buffer : List ℕ) → List ℕ
 judged sheet sheet_size ceilings buffer =

@@ -37,10 +37,10 @@ retry_from numbers =
       not_before = at numbers layout.answer_order_not_before;
     }
 
-unfoldable pub order_from : List ℕ → Order
+unfoldable pub order_from : List ℕ → Option Order
 order_from numbers =
-    when eqb (at numbers layout.answer_order) 0 then Order.Nothing else
-    when eqb (at numbers layout.answer_order) 1 then Order.Schedule (schedule_from numbers) else Order.Retry (retry_from numbers)
+    when eqb (at numbers layout.answer_order) 0 then None else
+    when eqb (at numbers layout.answer_order) 1 then Some (Order.Schedule (schedule_from numbers)) else Some (Order.Retry (retry_from numbers))
 
 -- A note and an ending.
 unfoldable pub note_from : List ℕ → ℕ → Note

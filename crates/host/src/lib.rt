@@ -15,7 +15,7 @@ ghost use Rattle.host.specs.Receipt.{by_lengths, by_numbers};
 
 use crate::read::{Used, call_fits, read_call, read_record, record_fits, used_rows};
 use crate::write::write_decision;
-use graph::{Ceilings, Verdict};
+use graph::{Broken, Ceilings};
 use workflow::capped;
 use workflow::layout::{NODE_COUNT, NUMBERS};
 
@@ -93,12 +93,12 @@ pub fn kuxhoveza_transition(
     numbers
 }
 
-fn verdict_numbers(verdict: Verdict) -> [u32; layout::VERDICT]
+fn verdict_numbers(verdict: Result<(), Broken>) -> [u32; layout::VERDICT]
     ensures { result ≡ verdict_numbers verdict }
 {
     match verdict {
-        Verdict::Fine => [0, 0],
-        Verdict::Broken { rule, item } => [rule, item],
+        Ok(()) => [0, 0],
+        Err(Broken { rule, item }) => [rule, item],
     }
 }
 

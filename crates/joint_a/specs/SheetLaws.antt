@@ -7,9 +7,6 @@ use Rattle.laws.specs.Every.{every}
 use Rattle.workflow.specs.Layout as layout
 use Rattle.workflow.specs.declared.Node.{Node}
 use Rattle.workflow.specs.declared.Route.{Route}
-use Rattle.workflow.specs.declared.Limit.{Limit}
-use Rattle.workflow.specs.declared.Action.{Action}
-use Rattle.workflow.specs.declared.Declared.{Declared}
 use Rattle.workflow.specs.View.{Workflow, workflow, at, node_at, route_at, limit_at, action_at, declared_at, column_blank, Table, node_table, route_table, limit_table, action_table, declared_table, table_blank, blank}
 use Rattle.joint_a.specs.Sheet.{Written, written, places, numbers}
 

@@ -1,11 +1,10 @@
 -- The record that a call is given, by its mark, and what an admitted call comes to.
-use Rattle.std.specs.Prelude.{◌≡◌, Bool, true, false, ℕ, ◌≤◌}
+use Rattle.graph.specs.Verdict.{Verdict, broken}
+use Rattle.std.specs.Prelude.{◌≡◌, Bool, true, false, ℕ, ◌≤◌, Ok}
 use Rattle.std.proofs.Math.Path.{sym}
 use Rattle.std.proofs.lemmas.Bool.{false≢true}
 use Rattle.laws.specs.Bool.{both}
 use Rattle.workflow.specs.View.{Workflow}
-use Rattle.graph.specs.declared.Verdict.{Verdict}
-use Rattle.graph.specs.declared.Verdict.TheVariants.{Fine, Broken}
 use Rattle.graph.specs.Chain.{stage, stage_fine, rule_holds}
 use Rattle.model.specs.declared.State.{State}
 use Rattle.model.specs.Record.{fresh}
@@ -25,11 +24,11 @@ module _ (f : Workflow) (s : State) (c : Call) {b : Bool} {v : Verdict} where
   without_record h e = rw h e
 
 -- The record of an admitted call stores at most 64 signals.
-pub room_of : (f : Workflow) (s : State) (c : Call) (b : Bool) → b ≡ true → Fine ≡ admission f (given_record b s) c → s.signal_count ≤ 64
+pub room_of : (f : Workflow) (s : State) (c : Call) (b : Bool) → b ≡ true → Ok tt ≡ admission f (given_record b s) c → s.signal_count ≤ 64
 unfolding admission next_stage consistent
 room_of f s c false z h = absurd (false≢true z)
 room_of f s c true z h =
-    let g : next_stage f s c.event.kind c.event.sequence ≡ Fine = stage_fine (sym h) (search stage depth 8) in
+    let g : next_stage f s c.event.kind c.event.sequence ≡ Ok tt = stage_fine (sym h) (search stage depth 8) in
     let e : consistent f s ≡ true = rule_holds inconsistent g (search stage depth 8) in
     fits_few s (both _ _ (both _ _ e).1).0
 
@@ -43,11 +42,11 @@ module _ (s : State) (c : Call) (b : Bool) where
 
 -- A call is turned away, or its step is done.
 module _ (f : Workflow) (s : State) (c : Call) (b : Bool) where
-  pub is_away : (k i : ℕ) → Broken k i ≡ admission f (given_record b s) c → decision_of (refused k i) ≡ decision_of (transition f (given_record b s) c)
+  pub is_away : (k i : ℕ) → broken k i ≡ admission f (given_record b s) c → decision_of (refused k i) ≡ decision_of (transition f (given_record b s) c)
   unfolding transition transition_by
   is_away k i h = rw (sym h)
 
-  pub is_stepped : (t : State) → t ≡ given (given_record b s) c → Fine ≡ admission f (given_record b s) c
+  pub is_stepped : (t : State) → t ≡ given (given_record b s) c → Ok tt ≡ admission f (given_record b s) c
       → decision_of (finish c.limits (driven f c.limits.microsteps c.event c.mappings t)) ≡ decision_of (transition f (given_record b s) c)
   unfolding transition transition_by
   is_stepped t e h = rw (e, sym h)

@@ -7,8 +7,6 @@ use Rattle.std.proofs.Math.ListN.{length}
 use Rattle.laws.specs.Bool.{when◌then◌else◌, split, either}
 use Rattle.workflow.specs.View.{Workflow}
 use Rattle.workflow.specs.Lookup.{node_of}
-use Rattle.workflow.specs.declared.Found.{Found}
-use Rattle.workflow.specs.declared.Found.TheVariants.{At, Nothing}
 use Rattle.model.specs.declared.State.{State}
 use Rattle.model.specs.declared.event.Event.{Event}
 use Rattle.model.specs.declared.event.Mappings.{Mappings}
@@ -143,15 +141,15 @@ module _ (f : Workflow) (limit : ℕ) (e : Event) (m : Mappings) where
       let c = costs_take f x.state (arrival e) Rest (omega arith) in
       bounded_take k x.state.signal_count x _ c.same c.small (omega arith) a.room (omega (arith, a.steps)) (omega (arith, a.enough)) (omega (arith, a.few_notes)) (omega (arith, a.few_endings)) (omega (arith, a.few_endings))
 
-  bounded_consume : (k : ℕ) (x : Machine) → Bounds Consume (suc k) x → (y : Found) → first_signal x.state (node_of f x.state.position.node).signal ≡ y
+  bounded_consume : (k : ℕ) (x : Machine) → Bounds Consume (suc k) x → (y : Option ℕ) → first_signal x.state (node_of f x.state.position.node).signal ≡ y
       → Bounded k (consume_by f limit e m y x)
   unfolding consume_by
-  bounded_consume k x a (At i) z =
+  bounded_consume k x a (Some i) z =
       let s = removed x.state i in
       let r = removed_count x.state i a.room (first_inside x.state _ i z) in
       let c = costs_take f s (signal_at x.state i) Consume (omega arith) in
       bounded_take k s.signal_count x _ c.same c.small (omega arith) a.room (omega (arith, a.steps)) (omega (arith, a.enough)) (omega (arith, a.few_notes)) (omega (arith, a.few_endings)) (omega (arith, a.few_endings))
-  bounded_consume k x a Nothing z =
+  bounded_consume k x a None z =
       record {
         room = a.room;
         steps = omega (arith, a.steps);

@@ -1,10 +1,8 @@
 -- A call, whole and in the order of document 01: sheet, event, record, step, finish.
-use Rattle.std.specs.Prelude.{Option, Some, None, Bool, true, false, not, List, [], ◌∷◌, ◌++◌, ℕ, ◌+◌, ltb, eqb}
+use Rattle.std.specs.Prelude.{Option, Some, None, Bool, true, false, not, List, [], ◌∷◌, ◌++◌, ℕ, ◌+◌, ltb, eqb, Ok, Err}
 use Rattle.laws.specs.Bool.{when◌then◌else◌}
 use Rattle.workflow.specs.View.{Workflow}
-use Rattle.graph.specs.declared.Verdict.{Verdict}
-use Rattle.graph.specs.declared.Verdict.TheVariants.{Fine, Broken}
-use Rattle.graph.specs.Verdict.{rule, first_broken, verdict}
+use Rattle.graph.specs.Verdict.{rule, first_broken, verdict, Verdict}
 use Rattle.model.specs.declared.State.{State}
 use Rattle.model.specs.declared.answer.Order.{Order}
 use Rattle.model.specs.declared.answer.Note.{Note}
@@ -80,7 +78,7 @@ pub data Answer : Type 0 where
   refused : (number item : ℕ) → Answer
 
 -- THE CLOSE (document 02, T-02): a run that has ended leaves over the signals that are still stored. They are listed behind the other endings, oldest first, and the store is
--- empty. Nothing is counted or noted for it.
+-- empty. None is counted or noted for it.
 unfoldable pub closed : Machine → Machine
 closed machine =
     when leaves_over machine.state.status machine.state.signal_count
@@ -124,8 +122,8 @@ finish limits machine = finish_by machine.next limits machine
 
 -- THE CALL: the first broken stage is the answer, else the step is done and finished.
 unfoldable pub transition_by : Verdict → Workflow → Last → Call → Answer
-transition_by (Broken number item) sheet standing call = refused number item
-transition_by Fine sheet standing call = finish call.limits (driven sheet call.limits.microsteps call.event call.mappings (given standing call))
+transition_by (Err broken) sheet standing call = refused broken.rule broken.item
+transition_by (Ok tt) sheet standing call = finish call.limits (driven sheet call.limits.microsteps call.event call.mappings (given standing call))
 
 unfoldable pub transition : Workflow → Last → Call → Answer
 transition sheet standing call = transition_by (admission sheet standing call) sheet standing call

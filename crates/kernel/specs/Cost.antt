@@ -5,8 +5,6 @@ use Rattle.std.specs.Prelude.{◌≡◌, Bool, ℕ, ◌+◌, ◌*◌, ◌≤◌,
 use Rattle.std.proofs.Math.Path.{refl, ap}
 use Rattle.std.proofs.Common.{arith, leb-false}
 use Rattle.laws.specs.Bool.{when◌then◌else◌, split, either}
-use Rattle.workflow.specs.declared.Found.{Found}
-use Rattle.workflow.specs.declared.Found.TheVariants.{At, Nothing}
 use Rattle.workflow.specs.View.{Workflow}
 use Rattle.model.specs.declared.ErrorInfo.{ErrorInfo}
 use Rattle.model.specs.declared.Output.{Output}
@@ -144,15 +142,15 @@ module _ (f : Workflow) where
       → Spares s.signal_count (record { state = s; next = k; note = x; ending = None; order = o; read = r })
   spares_as s k c = record { costs = record { small = c; same = refl }; no_end = refl }
 
-  spares_follow : (s : State) (n : ℕ) (x : Found) → Spares s.signal_count (follow_to f s n x)
+  spares_follow : (s : State) (n : ℕ) (x : Option ℕ) → Spares s.signal_count (follow_to f s n x)
   unfolding follow_to
-  spares_follow s n (At t) = spares_as s (Enter t n) (omega arith)
-  spares_follow s n Nothing = spares_as s (Refuse 0) (omega arith)
+  spares_follow s n (Some t) = spares_as s (Enter t n) (omega arith)
+  spares_follow s n None = spares_as s (Refuse 0) (omega arith)
 
-  spares_limited : (s : State) (n o : ℕ) (x : Found) → Spares s.signal_count (route_limited f s n o x)
+  spares_limited : (s : State) (n o : ℕ) (x : Option ℕ) → Spares s.signal_count (route_limited f s n o x)
   unfolding route_limited
-  spares_limited s n o Nothing = spares_follow _ n _
-  spares_limited s n o (At x) =
+  spares_limited s n o None = spares_follow _ n _
+  spares_limited s n o (Some x) =
       spares_if _ (let g = spares_follow _ n _ in record { costs = g.costs; no_end = g.no_end }) (spares_follow _ n _)
 
   spares_route : (s : State) (o : ℕ) (x : Output) → Spares s.signal_count (route f s o x)
@@ -160,11 +158,11 @@ module _ (f : Workflow) where
   spares_route s o x = spares_if _ (spares_as s (Refuse 0) (omega arith)) (spares_limited _ _ o _)
 
   -- TAKING. What comes where the signal does not route is k.
-  costs_take_by : (y : Found) (s : State) (x : BufferedSignal) (k : Next) → cost k s.signal_count ≤ 1 + 2 * s.signal_count
+  costs_take_by : (y : Option ℕ) (s : State) (x : BufferedSignal) (k : Next) → cost k s.signal_count ≤ 1 + 2 * s.signal_count
       → Costs s.signal_count (1 + 2 * s.signal_count) (take_by f y s x k).state (take_by f y s x k).next
   unfolding take_by
-  costs_take_by (At t) s x k c = (spares_route s _ _).costs
-  costs_take_by Nothing s x k c = record { small = c; same = refl }
+  costs_take_by (Some t) s x k c = (spares_route s _ _).costs
+  costs_take_by None s x k c = record { small = c; same = refl }
 
   pub costs_take : (s : State) (x : BufferedSignal) (k : Next) → cost k s.signal_count ≤ 1 + 2 * s.signal_count
       → Costs s.signal_count (1 + 2 * s.signal_count) (take f s x k).state (take f s x k).next

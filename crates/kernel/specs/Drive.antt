@@ -4,8 +4,6 @@ use Rattle.laws.specs.Bool.{when◌then◌else◌}
 use Rattle.laws.specs.Settle.{settle}
 use Rattle.workflow.specs.View.{Workflow}
 use Rattle.workflow.specs.Lookup.{node_of}
-use Rattle.workflow.specs.declared.Found.{Found}
-use Rattle.workflow.specs.declared.Found.TheVariants.{At, Nothing}
 use Rattle.model.specs.declared.State.{State}
 use Rattle.model.specs.declared.event.Event.{Event}
 use Rattle.model.specs.declared.event.Mapping.{Mapping}
@@ -74,9 +72,9 @@ module _ (sheet : Workflow) (limit : ℕ) (event : Event) (mappings : Mappings) 
   counting machine move = when ltb limit (machine.microsteps + 1) then over_limit machine else moved (machine.microsteps + 1) machine move
 
   -- The oldest stored signal that the node waits for is taken; with none left the run goes on waiting.
-  unfoldable pub consume_by : Found → Machine → Machine
-  consume_by (At place) machine = counting machine (step.take sheet (removed machine.state place) (signal_at machine.state place) Consume)
-  consume_by Nothing machine = moved machine.microsteps machine (still machine.state Rest)
+  unfoldable pub consume_by : Option ℕ → Machine → Machine
+  consume_by (Some place) machine = counting machine (step.take sheet (removed machine.state place) (signal_at machine.state place) Consume)
+  consume_by None machine = moved machine.microsteps machine (still machine.state Rest)
 
   abbrev pub consume : Machine → Machine
   consume machine = consume_by (first_signal machine.state (node_of sheet machine.state.position.node).signal) machine

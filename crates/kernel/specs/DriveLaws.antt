@@ -16,8 +16,6 @@ use Rattle.laws.specs.Listing.{padded, Listing, listing_none, listing_more, list
 use Rattle.laws.specs.Splice.{splice, splice_one, Written, write_start, write_next, write_end, flat_ones}
 use Rattle.workflow.specs.View.{Workflow}
 use Rattle.workflow.specs.Lookup.{node_of}
-use Rattle.workflow.specs.declared.Found.{Found}
-use Rattle.workflow.specs.declared.Found.TheVariants.{At, Nothing}
 use Rattle.model.specs.declared.State.{State}
 use Rattle.model.specs.declared.BufferedSignal.{BufferedSignal}
 use Rattle.model.specs.declared.Output.{Output}
@@ -248,25 +246,25 @@ record Plain (v : Move) : Type 0 where
   unread : v.read ≡ 0
 
 module _ (f : Workflow) where
-  plain_follow : (s : State) (n : ℕ) (x : Found) → Plain (follow_to f s n x)
+  plain_follow : (s : State) (n : ℕ) (x : Option ℕ) → Plain (follow_to f s n x)
   unfolding follow_to
-  plain_follow s n (At t) = record { no_order = refl; unread = refl }
-  plain_follow s n Nothing = record { no_order = refl; unread = refl }
+  plain_follow s n (Some t) = record { no_order = refl; unread = refl }
+  plain_follow s n None = record { no_order = refl; unread = refl }
 
-  plain_limited : (s : State) (n o : ℕ) (x : Found) → Plain (route_limited f s n o x)
+  plain_limited : (s : State) (n o : ℕ) (x : Option ℕ) → Plain (route_limited f s n o x)
   unfolding route_limited
-  plain_limited s n o Nothing = plain_follow _ n _
-  plain_limited s n o (At x) =
+  plain_limited s n o None = plain_follow _ n _
+  plain_limited s n o (Some x) =
       either Plain _ (λ _. let g = plain_follow _ n _ in record { no_order = g.no_order; unread = g.unread }) (λ _. plain_follow _ n _)
 
   plain_route : (s : State) (o : ℕ) (x : Output) → Plain (route f s o x)
   unfolding route
   plain_route s o x = either Plain _ (λ _. record { no_order = refl; unread = refl }) (λ _. plain_limited _ _ o _)
 
-  ends_take_by : (y : Found) (s : State) (x : BufferedSignal) (k : Next) → Ends (take_by f y s x k)
+  ends_take_by : (y : Option ℕ) (s : State) (x : BufferedSignal) (k : Next) → Ends (take_by f y s x k)
   unfolding take_by takes
-  ends_take_by (At t) s x k = let g = plain_route s _ _ in record { takes_one = refl; no_order = g.no_order; unread = g.unread }
-  ends_take_by Nothing s x k = record { takes_one = refl; no_order = refl; unread = refl }
+  ends_take_by (Some t) s x k = let g = plain_route s _ _ in record { takes_one = refl; no_order = g.no_order; unread = g.unread }
+  ends_take_by None s x k = record { takes_one = refl; no_order = refl; unread = refl }
 
   ends_take : (s : State) (x : BufferedSignal) (k : Next) → Ends (take_signal f s x k)
   ends_take s x k = ends_take_by _ s x k
@@ -275,7 +273,7 @@ module _ (f : Workflow) where
 settle_rested : {A : Type 0} {go : A → Bool} {step : A → A} {w : A} {k : ℕ} {x : A} → Settling go step w k x → go x ≡ false → (j : ℕ) → Settling go step w j x
 settle_rested {go = go} {step = step} {x = x} inv h j = record { left = settle_rests go step j x h ∙ settled inv refl h }
 
-pub none_stored : (s : State) (a : ℕ) → s.signal_count ≡ 0 → first_signal s a ≡ Nothing
+pub none_stored : (s : State) (a : ℕ) → s.signal_count ≡ 0 → first_signal s a ≡ None
 unfolding first_signal stored_as first
 none_stored s a h = rw h
 
@@ -443,7 +441,7 @@ module _ (f : Workflow) (l : Limits) (e : Event) (m : Mappings) (v₀ : Round) w
         }
 
     -- The store has no signal that is waited for.
-    turn_waits : (o : Option Order) → first_signal s (node_of f s.position.node).signal ≡ Nothing → Going (machine s Consume o ns es j q) → Turn Consume (entered_by (still s Rest) (still s Rest))
+    turn_waits : (o : Option Order) → first_signal s (node_of f s.position.node).signal ≡ None → Going (machine s Consume o ns es j q) → Turn Consume (entered_by (still s Rest) (still s Rest))
     unfolding entries takes added advance_by consume_by operations_of
     turn_waits o h g =
         let x = machine s Consume o ns es j q in
@@ -460,12 +458,12 @@ module _ (f : Workflow) (l : Limits) (e : Event) (m : Mappings) (v₀ : Round) w
           quiet = λ _. refl;
         }
 
-    turn_consumed : (o : Option Order) (y : Found) → first_signal s (node_of f s.position.node).signal ≡ y → Going (machine s Consume o ns es j q) → eqb s.signal_count 0 ≡ false
+    turn_consumed : (o : Option Order) (y : Option ℕ) → first_signal s (node_of f s.position.node).signal ≡ y → Going (machine s Consume o ns es j q) → eqb s.signal_count 0 ≡ false
         → Turn Consume (entered_by (consumed f s y) (entering f (consumed f s y).state (consumed f s y).next m))
     unfolding consumed entering advance_by consume_by
-    turn_consumed o (At i) h g b =
+    turn_consumed o (Some i) h g b =
         turn_taken Consume o (take_signal f (removed s i) (signal_at s i) Consume) (ends_take f (removed s i) (signal_at s i) Consume) g refl (rw h refl) (omega (arith, some_stored s.signal_count b))
-    turn_consumed o Nothing h g b = turn_waits o h g
+    turn_consumed o None h g b = turn_waits o h g
 
     turn : (n : Next) (o : Option Order) → Going (machine s n o ns es j q) → is_over n s.signal_count ≡ false → Turn n (round_of f s n (arrival e) m)
     unfolding is_over round_of taking entering advance_by

@@ -9,7 +9,7 @@ ghost use Rattle.workflow.specs.View.{workflow};
 ghost use Rattle.kernel.specs.Call.{given_record, start_stage, next_stage, admission, transition};
 ghost use Rattle.kernel.specs.Decision.{decision_of};
 
-use graph::{Ceilings, Verdict, is_broken, rule};
+use graph::{Broken, Ceilings, rule};
 use model::answer::{Answer, Ending, Note};
 use model::event::{Event, Mappings};
 use model::{State, code as record};
@@ -54,43 +54,28 @@ fn is_next(sequence: u64, last: u64) -> bool
 }
 
 // Without a record: 23, 22.
-fn start_stage(kind: u32, sequence: u64) -> Verdict
+fn start_stage(kind: u32, sequence: u64) -> Result<(), Broken>
     ensures { result ≡ start_stage kind sequence }
 {
-    let start = rule(code::NOT_STARTED, kind == record::RUN_STARTED);
-    if is_broken(start) {
-        return start;
-    }
+    rule(code::NOT_STARTED, kind == record::RUN_STARTED)?;
     rule(code::OUT_OF_SEQUENCE, sequence == 1)
 }
 
 // With a record: 24, 25, 22.
-fn next_stage(w: &[u32; NUMBERS], s: State, kind: u32, sequence: u64) -> Verdict
+fn next_stage(w: &[u32; NUMBERS], s: State, kind: u32, sequence: u64) -> Result<(), Broken>
     ensures { result ≡ next_stage (workflow w.now) s kind sequence }
 {
-    let other = rule(code::STARTED_BEFORE, kind != record::RUN_STARTED);
-    if is_broken(other) {
-        return other;
-    }
-    let check = rule(code::INCONSISTENT, snapshot::consistent(w, s));
-    if is_broken(check) {
-        return check;
-    }
+    rule(code::STARTED_BEFORE, kind != record::RUN_STARTED)?;
+    rule(code::INCONSISTENT, snapshot::consistent(w, s))?;
     rule(code::OUT_OF_SEQUENCE, is_next(sequence, s.last_sequence))
 }
 
 // The stages of a call before its step: sheet, event, record. Where there is no record, s is not looked at.
-pub fn admit(w: &[u32; NUMBERS], has_record: bool, s: State, c: Call) -> Verdict
+pub fn admit(w: &[u32; NUMBERS], has_record: bool, s: State, c: Call) -> Result<(), Broken>
     ensures { result ≡ admission (workflow w.now) (given_record has_record s) c }
 {
-    let sheet = graph::validate(w, c.ceilings);
-    if is_broken(sheet) {
-        return sheet;
-    }
-    let event = rule(code::EVENT_UNFIT, snapshot::event_fits(c.event, c.mappings));
-    if is_broken(event) {
-        return event;
-    }
+    graph::validate(w, c.ceilings)?;
+    rule(code::EVENT_UNFIT, snapshot::event_fits(c.event, c.mappings))?;
     if has_record {
         return next_stage(w, s, c.event.kind, c.event.sequence);
     }
@@ -102,9 +87,8 @@ pub fn admit(w: &[u32; NUMBERS], has_record: bool, s: State, c: Call) -> Verdict
 pub fn transition(w: &[u32; NUMBERS], has_record: bool, mut s: State, c: Call) -> Decision
     ensures { result ≡ decision_of (transition (workflow w.now) (given_record has_record s) c) }
 {
-    let verdict = admit(w, has_record, s, c);
-    if let Verdict::Broken { rule: number, item } = verdict {
-        return drive::refusal(number, item);
+    if let Err(broken) = admit(w, has_record, s, c) {
+        return drive::refusal(broken.rule, broken.item);
     }
     let limits = c.limits;
     let event = c.event;

@@ -1,11 +1,9 @@
 // One call from standard input, in bytes; its answer on standard output, an item a line (docs/BYTES.md).
 #![tactic(auto)]
 
-ghost use Rattle.std.specs.Prelude.{◌≤◌};
-
 use host::layout;
-use std::io;
 use std::io::{BufWriter, Read, Write};
+use std::{fmt, io};
 
 const ANSWER: usize = layout::ANSWER;
 
@@ -18,241 +16,153 @@ const ENOUGH: usize = 65536;
 // No run has more: a number has at most ten.
 const RUN_BYTES: usize = 10 * layout::RECORD;
 
-fn text<W: Write>(to: &mut W, bytes: &[u8]) -> io::Result<()> {
-    to.write_all(bytes)
-}
+// Numbers, each behind a blank.
+#[derive(Drop)]
+struct Row<'a>(&'a [u64]);
 
-fn number<W: Write>(to: &mut W, n: u64) -> io::Result<()> {
-    write!(to, " {n}")
-}
-
-fn at(xs: &[u64; ANSWER], i: usize) -> u64 {
-    if i < ANSWER {
-        return xs[i];
-    }
-    0
-}
-
-// The numbers of a row, behind what was printed of its line.
-fn numbers<W: Write>(to: &mut W, xs: &[u64; ANSWER], first: usize, width: usize) -> io::Result<()>
-    requires { (first ≤ 65536) × (width ≤ 65536) }
-{
-    for i in 0..width {
-        number(to, at(xs, first + i))?;
-    }
-    text(to, b"\n")
-}
-
-fn line<W: Write>(
-    to: &mut W,
-    word: &[u8],
-    xs: &[u64; ANSWER],
-    first: usize,
-    width: usize,
-) -> io::Result<()>
-    requires { (first ≤ 65536) × (width ≤ 65536) }
-{
-    text(to, word)?;
-    numbers(to, xs, first, width)
-}
-
-// A line for each row, as many as a count says. No rows are more than the notes.
-fn rows<W: Write>(
-    to: &mut W,
-    word: &[u8],
-    xs: &[u64; ANSWER],
-    first: usize,
-    width: usize,
-    count: u64,
-) -> io::Result<()>
-    requires { (first ≤ 4096) × (width ≤ 8) }
-{
-    let mut place = first;
-    for i in 0..layout::NOTES {
-        if (i as u64) < count {
-            line(to, word, xs, place, width)?;
+impl fmt::Display for Row<'_> {
+    fn fmt<W: fmt::Write>(&self, f: &mut fmt::Formatter<W>) -> fmt::Result {
+        for number in self.0 {
+            write!(f, " {number}")?;
         }
-        place += width;
+        Ok(())
+    }
+}
+
+// A line for each row, as many as a count says.
+fn rows<W: Write, const N: usize>(
+    to: &mut W,
+    word: &str,
+    xs: &[[u64; N]],
+    count: u64,
+) -> io::Result<()> {
+    for row in xs.iter().take(count as usize) {
+        writeln!(to, "{word}{}", Row(row))?;
     }
     Ok(())
 }
 
 // A line for each node whose row has a lead that isn't 0: the node, then the row.
-fn nodes<W: Write>(
+fn nodes<W: Write, const N: usize>(
     to: &mut W,
-    word: &[u8],
-    xs: &[u64; ANSWER],
-    first: usize,
-    width: usize,
+    word: &str,
+    xs: &[[u64; N]],
     lead: usize,
-) -> io::Result<()>
-    requires { (first ≤ 4096) × (width ≤ 8) × (lead ≤ 8) }
-{
-    let mut place = first;
-    for i in 0..layout::NODES {
-        if at(xs, place + lead) != 0 {
-            text(to, word)?;
-            number(to, i as u64)?;
-            numbers(to, xs, place, width)?;
+) -> io::Result<()> {
+    for (node, row) in xs.iter().enumerate() {
+        if row.get(lead).is_some_and(|x| *x != 0) {
+            writeln!(to, "{word} {node}{}", Row(row))?;
         }
-        place += width;
     }
     Ok(())
 }
 
-fn digit(n: u8) -> u8 {
-    if n < 10 {
-        return b'0' + n;
-    }
-    if n < 16 {
-        return b'a' + (n - 10);
-    }
-    b'?'
-}
-
-// The first of some bytes, two digits each, and the end of the line.
-fn digits<W: Write>(to: &mut W, bytes: &[u8; RUN_BYTES], size: usize) -> io::Result<()>
-    requires { size ≤ 9180 }
-{
-    let mut out = [b'\n'; 2 * RUN_BYTES + 1];
-    for i in 0..size {
-        out[2 * i] = digit(bytes[i] / 16);
-        out[2 * i + 1] = digit(bytes[i] % 16);
-    }
-    text(to, &out[..2 * size + 1])
-}
-
-// The run's bytes.
+// The run's bytes, two digits each.
 fn hexadecimal<W: Write>(to: &mut W, xs: &[u64; ANSWER]) -> io::Result<()> {
     let mut bytes = [0u8; RUN_BYTES];
     let size = in_bytes::run::run_size(xs, RUN);
     if size <= RUN_BYTES {
         in_bytes::run::write_run(&mut bytes, 0, xs, RUN);
-        digits(to, &bytes, size)?;
+        for byte in &bytes[..size] {
+            write!(to, "{byte:02x}")?;
+        }
+        writeln!(to)?;
     }
     Ok(())
 }
 
 fn run<W: Write>(to: &mut W, xs: &[u64; ANSWER]) -> io::Result<()> {
-    line(to, b"status", xs, RUN + layout::RECORD_STATUS, 1)?;
-    line(to, b"input", xs, RUN + layout::RECORD_INPUT, 1)?;
-    line(to, b"activations", xs, RUN + layout::RECORD_ACTIVATIONS, 1)?;
-    line(to, b"sequence", xs, RUN + layout::RECORD_LAST_SEQUENCE, 1)?;
-    line(to, b"time", xs, RUN + layout::RECORD_LAST_ACCEPTED_AT, 1)?;
-    line(to, b"position", xs, RUN + layout::RECORD_POSITION_NODE, 2)?;
-    line(to, b"invocation", xs, RUN + layout::RECORD_PHASE, 6)?;
-    line(
-        to,
-        b"kept",
-        xs,
-        RUN + layout::RECORD_ERROR,
-        layout::ERROR_WIDTH,
-    )?;
-    line(
-        to,
-        b"result",
-        xs,
-        RUN + layout::RECORD_RESULT,
-        layout::OUTPUT_WIDTH,
-    )?;
-    rows(
-        to,
-        b"signal",
-        xs,
-        RUN + layout::RECORD_SIGNALS,
-        layout::SIGNAL_WIDTH,
-        at(xs, RUN + layout::RECORD_STORED),
-    )?;
-    nodes(to, b"visits", xs, RUN + layout::RECORD_VISITS, 1, 0)?;
-    nodes(
-        to,
-        b"streak",
-        xs,
-        RUN + layout::RECORD_STREAKS,
-        layout::STREAK_WIDTH,
-        1,
-    )?;
-    nodes(
-        to,
-        b"output",
-        xs,
-        RUN + layout::RECORD_RESULTS,
-        layout::RESULT_WIDTH,
-        2,
-    )
+    let run = &xs[RUN..];
+    writeln!(to, "status {}", run[layout::RECORD_STATUS])?;
+    writeln!(to, "input {}", run[layout::RECORD_INPUT])?;
+    writeln!(to, "activations {}", run[layout::RECORD_ACTIVATIONS])?;
+    writeln!(to, "sequence {}", run[layout::RECORD_LAST_SEQUENCE])?;
+    writeln!(to, "time {}", run[layout::RECORD_LAST_ACCEPTED_AT])?;
+    let position = &run[layout::RECORD_POSITION_NODE..layout::RECORD_PHASE];
+    writeln!(to, "position{}", Row(position))?;
+    let invocation = &run[layout::RECORD_PHASE..layout::RECORD_ERROR];
+    writeln!(to, "invocation{}", Row(invocation))?;
+    let kept = &run[layout::RECORD_ERROR..layout::RECORD_RESULT];
+    writeln!(to, "kept{}", Row(kept))?;
+    let result = &run[layout::RECORD_RESULT..layout::RECORD_STORED];
+    writeln!(to, "result{}", Row(result))?;
+    let signals = &run[layout::RECORD_SIGNALS..layout::RECORD_VISITS];
+    let (signals, _) = signals.as_chunks::<{ layout::SIGNAL_WIDTH }>();
+    rows(to, "signal", signals, run[layout::RECORD_STORED])?;
+    let visits = &run[layout::RECORD_VISITS..layout::RECORD_STREAKS];
+    let (visits, _) = visits.as_chunks::<1>();
+    nodes(to, "visits", visits, 0)?;
+    let streaks = &run[layout::RECORD_STREAKS..layout::RECORD_RESULTS];
+    let (streaks, _) = streaks.as_chunks::<{ layout::STREAK_WIDTH }>();
+    nodes(to, "streak", streaks, 1)?;
+    let (outputs, _) = run[layout::RECORD_RESULTS..].as_chunks::<{ layout::RESULT_WIDTH }>();
+    nodes(to, "output", outputs, 2)
 }
 
 fn order<W: Write>(to: &mut W, xs: &[u64; ANSWER]) -> io::Result<()> {
-    let kind = at(xs, layout::ANSWER_ORDER);
-    if kind == 1 {
-        return line(to, b"schedule", xs, layout::ANSWER_ORDER_NODE, 8);
+    let order = &xs[layout::ANSWER_ORDER_NODE..layout::ANSWER_NOTED];
+    match xs[layout::ANSWER_ORDER] {
+        1 => writeln!(to, "schedule{}", Row(order)),
+        2 => writeln!(
+            to,
+            "retry {} {} {} {}",
+            xs[layout::ANSWER_ORDER_NODE],
+            xs[layout::ANSWER_ORDER_VISIT],
+            xs[layout::ANSWER_ORDER_ATTEMPT],
+            xs[layout::ANSWER_ORDER_NOT_BEFORE]
+        ),
+        _ => Ok(()),
     }
-    if kind == 2 {
-        text(to, b"retry")?;
-        number(to, at(xs, layout::ANSWER_ORDER_NODE))?;
-        number(to, at(xs, layout::ANSWER_ORDER_VISIT))?;
-        number(to, at(xs, layout::ANSWER_ORDER_ATTEMPT))?;
-        number(to, at(xs, layout::ANSWER_ORDER_NOT_BEFORE))?;
-        text(to, b"\n")?;
-    }
-    Ok(())
 }
 
 fn next<W: Write>(to: &mut W, xs: &[u64; ANSWER]) -> io::Result<()> {
-    line(to, b"next", xs, layout::ANSWER_MICROSTEPS, 1)?;
+    writeln!(to, "next {}", xs[layout::ANSWER_MICROSTEPS])?;
     order(to, xs)?;
-    rows(
-        to,
-        b"note",
-        xs,
-        layout::ANSWER_NOTES,
-        layout::NOTE_WIDTH,
-        at(xs, layout::ANSWER_NOTED),
-    )?;
-    rows(
-        to,
-        b"ending",
-        xs,
-        layout::ANSWER_ENDINGS,
-        layout::ENDING_WIDTH,
-        at(xs, layout::ANSWER_ENDED),
-    )?;
+    let notes = &xs[layout::ANSWER_NOTES..layout::ANSWER_ENDINGS];
+    let (notes, _) = notes.as_chunks::<{ layout::NOTE_WIDTH }>();
+    rows(to, "note", notes, xs[layout::ANSWER_NOTED])?;
+    let endings = &xs[layout::ANSWER_ENDINGS..layout::ANSWER_RECORD];
+    let (endings, _) = endings.as_chunks::<{ layout::ENDING_WIDTH }>();
+    rows(to, "ending", endings, xs[layout::ANSWER_ENDED])?;
     run(to, xs)?;
-    text(to, b"run ")?;
+    write!(to, "run ")?;
     hexadecimal(to, xs)
 }
 
 fn want<W: Write>(to: &mut W, xs: &[u64; ANSWER]) -> io::Result<()> {
-    line(to, b"want", xs, layout::ANSWER_WANT_NODE, 3)?;
+    let want = &xs[layout::ANSWER_WANT_NODE..layout::WANT_WIDTH];
+    writeln!(to, "want{}", Row(want))?;
     run(to, xs)?;
-    text(to, b"moment ")?;
+    write!(to, "moment ")?;
     hexadecimal(to, xs)
 }
 
 fn show<W: Write>(to: &mut W, xs: &[u64; ANSWER]) -> io::Result<()> {
-    let kind = at(xs, layout::ANSWER_KIND);
-    if kind == 1 {
-        return next(to, xs);
+    match xs[layout::ANSWER_KIND] {
+        1 => next(to, xs),
+        2 => want(to, xs),
+        _ => {
+            let number = xs[layout::ANSWER_REFUSAL_NUMBER];
+            let item = xs[layout::ANSWER_REFUSAL_ITEM];
+            writeln!(to, "refused {number} {item}")
+        }
     }
-    if kind == 2 {
-        return want(to, xs);
-    }
-    line(to, b"refused", xs, layout::ANSWER_REFUSAL_NUMBER, 2)
+}
+
+// The answer's numbers; none where the bytes are no call.
+fn decided(bytes: &[u8]) -> Option<[u64; ANSWER]> {
+    let mut answer = [0; ANSWER];
+    let is_call = bytes.len() < ENOUGH && in_bytes::decide(bytes, &mut answer);
+    is_call.then_some(answer)
 }
 
 fn main(rt: HostRuntime) -> io::Result<()> {
-    let mut buffer = Vec::new(rt.alloc());
-    let size = rt.stdin().take(ENOUGH as u64).read_to_end(&mut buffer)?;
-    let mut answer = [0u64; ANSWER];
-    let mut read = false;
-    if size < ENOUGH {
-        read = in_bytes::decide(buffer.as_slice(), &mut answer);
-    }
+    let mut call = Vec::new(rt.alloc());
+    rt.stdin().take(ENOUGH as u64).read_to_end(&mut call)?;
     let mut out = BufWriter::new(rt.alloc(), rt.stdout())?;
-    if read {
-        show(&mut out, &answer)?;
-    } else {
-        text(&mut out, b"refused 31 255\n")?;
+    match decided(&call) {
+        Some(answer) => show(&mut out, &answer)?,
+        None => writeln!(out, "refused 31 255")?,
     }
     out.flush()
 }

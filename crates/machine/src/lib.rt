@@ -7,48 +7,14 @@ pub mod reaction;
 
 ghost use Rattle.std.specs.Prelude.{◌≡◌};
 ghost use Rattle.workflow.specs.View.{workflow};
-ghost use Rattle.machine.specs.Events.{react, apply};
-ghost use Rattle.machine.specs.ReactionLaws.{Stands, Reacts};
+ghost use Rattle.machine.specs.Events.{apply};
 
-use crate::events::{arrival, on_ended, on_resolved, on_result, on_signal};
+use crate::events::{Machine, arrival};
 use crate::reaction::Reaction;
 use model::event::Event;
 use model::moves::{Move, Next, still};
-use model::{InvocationState, Position, State, code};
-use workflow::code as sheet;
+use model::{InvocationState, State, code};
 use workflow::layout::NUMBERS;
-
-// What one event makes of a run that stands so.
-fn react(
-    w: &[u32; NUMBERS],
-    status: u32,
-    position: Position,
-    invocation: InvocationState,
-    count: u32,
-    event: Event,
-) -> Reaction
-    ensures { Reacts (workflow w.now) event result (Stands status position invocation count) react }
-{
-    if model::is_terminal(status) {
-        return on_ended(event);
-    }
-    if event.kind == code::RUN_STARTED {
-        return Reaction::Pass(Next::Enter {
-            node: w[workflow::layout::START],
-            from: sheet::NONE,
-        });
-    }
-    if event.kind == code::SIGNAL_RECEIVED {
-        return on_signal(w, status, position, count, event);
-    }
-    if event.kind == code::ACTIVITY_RESULT {
-        return on_result(w, position, invocation, event);
-    }
-    if event.kind == code::INVOCATION_RESOLVED {
-        return on_resolved(w, position, invocation, event);
-    }
-    Reaction::Pass(Next::Rest)
-}
 
 // Sequence is set, accepted time becomes the larger of old and new; then what the event makes of the run is done.
 pub fn apply(w: &[u32; NUMBERS], mut s: State, event: Event) -> Move
@@ -56,10 +22,12 @@ pub fn apply(w: &[u32; NUMBERS], mut s: State, event: Event) -> Move
 {
     s.last_sequence = event.sequence;
     s.last_accepted_at = s.last_accepted_at.max(event.accepted_at);
-    let position = s.position;
-    let old = s.invocation;
-    let reaction = react(w, s.status, position, old, s.signal_count, event);
-    match reaction {
+    let machine = Machine {
+        sheet: w,
+        state: &s,
+        event: &event,
+    };
+    match machine.react() {
         Reaction::Pass(next) => still(s, next),
         Reaction::Store => still(s.append_signal(arrival(event)), Next::Rest),
         Reaction::Say { note, ending } => Move {
@@ -76,16 +44,12 @@ pub fn apply(w: &[u32; NUMBERS], mut s: State, event: Event) -> Move
         }
         Reaction::Retry(delay) => s.retry(w, delay),
         Reaction::Park { phase, error, note } => {
+            s.status = code::NEEDS_INTERVENTION;
             s.invocation = InvocationState {
                 phase,
-                node: old.node,
-                visit: old.visit,
-                action: old.action,
-                attempt: old.attempt,
-                input: old.input,
                 error,
+                ..s.invocation
             };
-            s.status = code::NEEDS_INTERVENTION;
             Move {
                 state: s,
                 next: Next::Rest,

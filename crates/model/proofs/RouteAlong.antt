@@ -8,8 +8,6 @@ use Rattle.std.proofs.Math.Dec.{leb}
 use Rattle.laws.specs.Bool.{when◌then◌else◌, split}
 use Rattle.workflow.specs.Code.{exhausted}
 use Rattle.model.specs.Code.{note_exhausted}
-use Rattle.workflow.specs.declared.Found.{Found}
-use Rattle.workflow.specs.declared.Found.TheVariants.{At, Nothing}
 use Rattle.workflow.specs.View.{Workflow}
 use Rattle.workflow.specs.Lookup.{node_slots, route_of, limit_of}
 use Rattle.model.specs.declared.Output.{Output}
@@ -29,13 +27,13 @@ module _ (f : Workflow) (s : State) (n o : ℕ) where
   either_way true x k = rw (follow_on f (with_streak s n no_streak) n (route_of f n exhausted))
   either_way false x k = follow_on f (with_streak s n k) n (route_of f n o)
 
-  route_along : (l : Found) → route_limited f s n o l ≡ along f s n (routing_of l (streak_of s n) n o)
+  route_along : (l : Option ℕ) → route_limited f s n o l ≡ along f s n (routing_of l (streak_of s n) n o)
   unfolding route_limited routing_of
-  route_along Nothing = follow_on f (with_streak s n no_streak) n (route_of f n o)
-  route_along (At x) = either_way (leb x (streak_count (streak_of s n) o)) x (record { outcome = o; count = streak_count (streak_of s n) o + 1 })
+  route_along None = follow_on f (with_streak s n no_streak) n (route_of f n o)
+  route_along (Some x) = either_way (leb x (streak_count (streak_of s n) o)) x (record { outcome = o; count = streak_count (streak_of s n) o + 1 })
 
 module _ (f : Workflow) (p : Position) (k : Streak) (o : ℕ) (x : Output) (e : Option Ending) where
-  pub routes : {m : ℕ} {l t : Found} {y : Routing} {n : Next} → m ≡ node_slots f → p.node < m → l ≡ limit_of f p.node o → y ≡ routing_of l k p.node o → t ≡ route_of f p.node y.outcome → n ≡ next_of t p.node
+  pub routes : {m : ℕ} {l t : Option ℕ} {y : Routing} {n : Next} → m ≡ node_slots f → p.node < m → l ≡ limit_of f p.node o → y ≡ routing_of l k p.node o → t ≡ route_of f p.node y.outcome → n ≡ next_of t p.node
       → Makes p k (record { stored = Some (record { result = record { visit = p.visit; outcome = o; output = x }; streak = y.streak }); next = n; note = y.note; ending = e }) (λ s. ends e (route f s o x))
   unfolding route stored_by when◌then◌else◌
   routes em lt el ey et en =

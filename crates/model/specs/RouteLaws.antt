@@ -14,8 +14,6 @@ use Rattle.laws.specs.Rows.{span, take_span}
 use Rattle.laws.specs.Shift.{without, Shift, shift_done}
 use Rattle.workflow.specs.Code.{exhausted}
 use Rattle.model.specs.Code.{store, largest, running, scheduled, invariant, no_retry, largest_attempt, note_retry, note_exhausted, note_unrouted, end_routed, end_unrouted}
-use Rattle.workflow.specs.declared.Found.{Found}
-use Rattle.workflow.specs.declared.Found.TheVariants.{At, Nothing}
 use Rattle.workflow.specs.View.{Workflow}
 use Rattle.workflow.specs.Lookup.{node_slots, node_of, route_of}
 use Rattle.model.specs.declared.Output.{Output}
@@ -46,24 +44,24 @@ exhausts n o x = record { streak = no_streak; outcome = exhausted; note = Some (
 abbrev pub goes_on : (outcome : ℕ) → Streak → Routing
 goes_on o k = record { streak = k; outcome = o; note = None }
 
-unfoldable pub routing_of : Found → Streak → (node outcome : ℕ) → Routing
-routing_of Nothing k n o = goes_on o no_streak
-routing_of (At x) k n o = when leb x (streak_count k o) then exhausts n o x else goes_on o (record { outcome = o; count = streak_count k o + 1 })
+unfoldable pub routing_of : Option ℕ → Streak → (node outcome : ℕ) → Routing
+routing_of None k n o = goes_on o no_streak
+routing_of (Some x) k n o = when leb x (streak_count k o) then exhausts n o x else goes_on o (record { outcome = o; count = streak_count k o + 1 })
 
 -- Where a route leads.
-unfoldable pub next_of : Found → (node : ℕ) → Next
-next_of (At t) n = Enter t n
-next_of Nothing n = Refuse invariant
+unfoldable pub next_of : Option ℕ → (node : ℕ) → Next
+next_of (Some t) n = Enter t n
+next_of None n = Refuse invariant
 
 module _ (f : Workflow) (s : State) (n : ℕ) where
   -- The move that routes.
   abbrev pub along : Routing → Move
   along y = record { state = with_streak s n y.streak; next = next_of (route_of f n y.outcome) n; note = y.note; ending = None; order = None; read = 0 }
 
-  pub follow_on : (x : Found) → follow_to f s n x ≡ still s (next_of x n)
+  pub follow_on : (x : Option ℕ) → follow_to f s n x ≡ still s (next_of x n)
   unfolding follow_to next_of
-  follow_on (At t) = refl
-  follow_on Nothing = refl
+  follow_on (Some t) = refl
+  follow_on None = refl
 
 -- WHAT IS STORED AND SAID, as the code works it out before it stores it: what it makes of a record.
 unfoldable pub stored_by : State → (node : ℕ) → Option Stored → State
@@ -85,7 +83,7 @@ unstored n t e = record { stored = None; next = n; note = t; ending = e }
 abbrev pub ends : Option Ending → Move → Move
 ends e m = record { state = m.state; next = m.next; note = m.note; ending = e; order = m.order; read = m.read }
 
--- Nothing is stored: the record stays.
+-- None is stored: the record stays.
 pub unstored_makes : (p : Position) (k : Streak) (n : Next) (t : Option Note) (e : Option Ending) (m : State → Move) {r : Routed} → r ≡ unstored n t e
     → ((s : State) → s.position ≡ p → record { state = s; next = n; note = t; ending = e; order = None; read = 0 } ≡ m s) → Makes p k r m
 unfolding unstored stored_by
@@ -98,13 +96,13 @@ module _ (f : Workflow) (p : Position) (k : Streak) (o : ℕ) (x : Output) (e : 
   strays em le h = unstored_makes p k _ _ _ _ h (λ s a. rw a (simp (← em, le-leb _ _ le)))
 
 -- A signal that is taken: o is its outcome, v the route of that.
-module _ (f : Workflow) (p : Position) (k : Streak) (x : BufferedSignal) (m : Next) {o : ℕ} {v : Found} {r : Routed} (outcome : o ≡ signal_outcome x.outcome) (found : v ≡ signal_route f p.node o) where
-  pub misses : v ≡ Nothing → r ≡ unstored m (Some (record { code = note_unrouted; node = p.node; a = x.event_id; b = o; c = 0 })) (Some (record { sequence = x.sequence; ending = end_unrouted }))
+module _ (f : Workflow) (p : Position) (k : Streak) (x : BufferedSignal) (m : Next) {o : ℕ} {v : Option ℕ} {r : Routed} (outcome : o ≡ signal_outcome x.outcome) (found : v ≡ signal_route f p.node o) where
+  pub misses : v ≡ None → r ≡ unstored m (Some (record { code = note_unrouted; node = p.node; a = x.event_id; b = o; c = 0 })) (Some (record { sequence = x.sequence; ending = end_unrouted }))
       → Makes p k r (λ s. take f s x m)
   unfolding take_by
   misses z h = unstored_makes p k _ _ _ _ h (λ s a. rw a (simp (← outcome, ← found, z)))
 
-  pub takes : {t : ℕ} → v ≡ At t → Makes p k r (λ s. ends (Some (record { sequence = x.sequence; ending = end_routed })) (route f s o (Output.Handle x.«data»))) → Makes p k r (λ s. take f s x m)
+  pub takes : {t : ℕ} → v ≡ Some t → Makes p k r (λ s. ends (Some (record { sequence = x.sequence; ending = end_routed })) (route f s o (Output.Handle x.«data»))) → Makes p k r (λ s. take f s x m)
   unfolding take_by
   takes z h = record { inside = h.inside; of_record = λ s a b. h.of_record s a b ∙ sym (simp (a, ← outcome, ← found, z)) }
 
@@ -131,9 +129,9 @@ passed_on f (Wants n i c) x y s h g = refl
 passed_on f (Refuse n) x y s h g = refl
 
 -- THE MOVE THAT TAKES A SIGNAL, by what comes next. The store gives its oldest signal of the name that the node waits for; with none the run goes on waiting.
-unfoldable pub consumed : Workflow → State → Found → Move
-consumed f s (At i) = take f (removed s i) (signal_at s i) Consume
-consumed f s Nothing = still s Rest
+unfoldable pub consumed : Workflow → State → Option ℕ → Move
+consumed f s (Some i) = take f (removed s i) (signal_at s i) Consume
+consumed f s None = still s Rest
 
 unfoldable pub taking : Workflow → State → Next → (arrived : BufferedSignal) → Move
 taking f s Rest x = still s Rest
@@ -144,10 +142,10 @@ taking f s (Wants n i c) x = still s (Wants n i c)
 taking f s (Refuse n) x = still s (Refuse n)
 
 -- What is taken where the store is consumed: z, the place that was found.
-pub consumes : (f : Workflow) (s : State) (x : BufferedSignal) (z : Found) → taken_by f Consume x (found_at s z) (left_at s z) ≡ consumed f s z
+pub consumes : (f : Workflow) (s : State) (x : BufferedSignal) (z : Option ℕ) → taken_by f Consume x (found_at s z) (left_at s z) ≡ consumed f s z
 unfolding taken_by found_taken consumed found_at left_at
-consumes f s x (At i) = refl
-consumes f s x Nothing = refl
+consumes f s x (Some i) = refl
+consumes f s x None = refl
 
 pub takes_else : (f : Workflow) (s : State) (n : Next) (x : BufferedSignal) → (n ≡ Consume → ⊥) → taken_by f n x None s ≡ taking f s n x
 unfolding taken_by taking
@@ -165,15 +163,15 @@ pub record Picked (f : Workflow) (s : State) (n : Next) (x : BufferedSignal) (t 
   pub move_is : taken_by f n x y t ≡ taking f s n x
 
 module _ (s : State) where
-  left_position : (z : Found) → (left_at s z).position ≡ s.position
+  left_position : (z : Option ℕ) → (left_at s z).position ≡ s.position
   unfolding left_at removed when◌then◌else◌
-  left_position Nothing = refl
-  left_position (At i) = split (ltb i (min store s.signal_count)) (λ h. rw h) (λ h. rw h)
+  left_position None = refl
+  left_position (Some i) = split (ltb i (min store s.signal_count)) (λ h. rw h) (λ h. rw h)
 
-  left_streaks : (z : Found) → (left_at s z).streaks ≡ s.streaks
+  left_streaks : (z : Option ℕ) → (left_at s z).streaks ≡ s.streaks
   unfolding left_at removed when◌then◌else◌
-  left_streaks Nothing = refl
-  left_streaks (At i) = split (ltb i (min store s.signal_count)) (λ h. rw h) (λ h. rw h)
+  left_streaks None = refl
+  left_streaks (Some i) = split (ltb i (min store s.signal_count)) (λ h. rw h) (λ h. rw h)
 
 module _ (f : Workflow) (s : State) {t : State} {y : Option BufferedSignal} where
   -- the first of the name that the node waits for

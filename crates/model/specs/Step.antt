@@ -3,8 +3,6 @@ use Rattle.std.specs.Prelude.{ℕ, Option, Some, None, Result, Ok, Err, ◌+◌,
 use Rattle.laws.specs.Bool.{when◌then◌else◌, ◌and◌}
 use Rattle.workflow.specs.Code.{none, received, exhausted, activity, await_signal, complete}
 use Rattle.model.specs.Code.{largest, largest_attempt, running, waiting, run_completed, run_failed, scheduled, value, fault, field_input, field_params, field_output, visits_exceeded, activations_exceeded, note_unrouted, note_retry, note_exhausted, invariant, no_retry, unencodable, end_routed, end_unrouted}
-use Rattle.workflow.specs.declared.Found.{Found}
-use Rattle.workflow.specs.declared.Found.TheVariants.{At, Nothing}
 use Rattle.workflow.specs.View.{Workflow}
 use Rattle.workflow.specs.Lookup.{is_0_2, node_slots, node_of, route_of, limit_of}
 use Rattle.model.specs.declared.ErrorInfo.{ErrorInfo}
@@ -214,17 +212,17 @@ module _ (sheet : Workflow) where
       arrive (one_more_visit state node) node from mappings
 
   -- The outcome's route is followed. An accepted sheet routes what comes here.
-  unfoldable pub follow_to : State → (node : ℕ) → Found → Move
-  follow_to state node (At target) = still state (Enter target node)
-  follow_to state node Nothing = astray state
+  unfoldable pub follow_to : State → (node : ℕ) → Option ℕ → Move
+  follow_to state node (Some target) = still state (Enter target node)
+  follow_to state node None = astray state
 
   abbrev pub follow : State → (node outcome : ℕ) → Move
   follow state node outcome = follow_to state node (route_of sheet node outcome)
 
   -- With a limit on the outcome, and a streak at it: the streak goes and exhausted is followed. Without a limit the streak goes.
-  unfoldable pub route_limited : State → (node outcome : ℕ) → Found → Move
-  route_limited state node outcome Nothing = follow (with_streak state node no_streak) node outcome
-  route_limited state node outcome (At limit) =
+  unfoldable pub route_limited : State → (node outcome : ℕ) → Option ℕ → Move
+  route_limited state node outcome None = follow (with_streak state node no_streak) node outcome
+  route_limited state node outcome (Some limit) =
       when leb limit (streak_count (streak_of state node) outcome)
       then noting note_exhausted node outcome limit 0 (follow (with_streak state node no_streak) node exhausted)
       else follow (with_streak state node (record { outcome = outcome; count = streak_count (streak_of state node) outcome + 1 })) node outcome
@@ -237,15 +235,15 @@ module _ (sheet : Workflow) where
       route_limited (with_result state node (record { visit = state.position.visit; outcome = outcome; output = output })) node outcome (limit_of sheet node outcome)
 
   -- The route of a signal's outcome: none for exhausted in format 2.
-  abbrev pub signal_route : (node outcome : ℕ) → Found
-  signal_route node outcome = when is_0_2 sheet and eqb outcome exhausted then Nothing else route_of sheet node outcome
+  abbrev pub signal_route : (node outcome : ℕ) → Option ℕ
+  signal_route node outcome = when is_0_2 sheet and eqb outcome exhausted then None else route_of sheet node outcome
 
   -- A signal is taken where the run waits: it routes and ends there; without a routed outcome it ends there too, the run goes on waiting, and what comes after is missed.
-  unfoldable pub take_by : Found → State → BufferedSignal → (missed : Next) → Move
-  take_by Nothing state signal missed =
+  unfoldable pub take_by : Option ℕ → State → BufferedSignal → (missed : Next) → Move
+  take_by None state signal missed =
       ending signal.sequence end_unrouted
       (noting note_unrouted state.position.node signal.event_id (signal_outcome signal.outcome) 0 (still state missed))
-  take_by (At target) state signal missed =
+  take_by (Some target) state signal missed =
       ending signal.sequence end_routed (route state (signal_outcome signal.outcome) (Output.Handle signal.«data»))
 
   abbrev pub take : State → BufferedSignal → (missed : Next) → Move

@@ -1,12 +1,10 @@
 -- The stored signals: the first `signal_count` of the array, oldest first. Only this file and its laws (StoreLaws) know where they sit.
-use Rattle.std.specs.Prelude.{List, map, Bool, ℕ, ◌+◌, ◌-◌, min, get_or, set, take, drop, replicate, ltb, leb, eqb}
+use Rattle.std.specs.Prelude.{List, map, Bool, ℕ, ◌+◌, ◌-◌, min, get_or, set, take, drop, replicate, ltb, leb, eqb, Option, Some, None}
 use Rattle.laws.specs.Bool.{when◌then◌else◌, ◌and◌}
 use Rattle.laws.specs.First.{first}
 use Rattle.laws.specs.Every.{every}
 use Rattle.laws.specs.Shift.{without}
 use Rattle.model.specs.Code.{store, largest, end_left_over}
-use Rattle.workflow.specs.declared.Found.{Found}
-use Rattle.workflow.specs.declared.Found.TheVariants.{At, Nothing}
 use Rattle.model.specs.Record.{no_signal, is_terminal, set_signals}
 use Rattle.model.specs.declared.BufferedSignal.{BufferedSignal}
 use Rattle.model.specs.declared.State.{State}
@@ -20,8 +18,8 @@ abbrev pub stored : State → List BufferedSignal
 stored state = listed state.signals state.signal_count
 
 -- The place of the oldest stored signal of a name, and the signal at a place.
-unfoldable pub first_signal : State → (signal : ℕ) → Found
-first_signal state name = first (λ signal. eqb signal.signal name) (λ place _. At place) Nothing 0 (stored state)
+unfoldable pub first_signal : State → (signal : ℕ) → Option ℕ
+first_signal state name = first (λ signal. eqb signal.signal name) (λ place _. Some place) None 0 (stored state)
 
 unfoldable pub signal_at : State → (place : ℕ) → BufferedSignal
 signal_at state place = get_or (stored state) place no_signal

@@ -23,8 +23,6 @@ use Rattle.laws.specs.Rows.{rows, span}
 use Rattle.laws.specs.Every.{every, below, every_then, every_append, every_remove}
 use Rattle.laws.specs.Listing.{padded, Listing, listing_none, listing_more}
 use Rattle.laws.specs.Shift.{remove_at, without, take_without, drop_without, length_without}
-use Rattle.workflow.specs.declared.Found.{Found}
-use Rattle.workflow.specs.declared.Found.TheVariants.{At, Nothing}
 use Rattle.model.specs.Code.{store, largest, end_left_over}
 use Rattle.model.specs.Record.{no_signal, set_signals}
 use Rattle.model.specs.Store.{listed, stored, first_signal, signal_at, removed, appended, left_over, in_sequence, signal_zero, signals_fit, store_fits}
@@ -65,14 +63,14 @@ unfolding signal_at listed
 signal_past s i l h = past_taken no_signal s.signals i s.signal_count (omega arith)
 
 -- One that is found has a place in the store.
-first_below : {A : Type 0} (p : A → Bool) (j : ℕ) (xs : List A) (i : ℕ) → first p (λ k _. At k) Nothing j xs ≡ At i → i < j + length xs
+first_below : {A : Type 0} (p : A → Bool) (j : ℕ) (xs : List A) (i : ℕ) → first p (λ k _. Some k) None j xs ≡ Some i → i < j + length xs
 unfolding first when◌then◌else◌
 first_below p j [] i h = let z : ◌≡◌ {A = ℕ} 0 1 = cc in absurd (omega arith)
 first_below p j (x ∷ xs) i h =
-    split (p x) (λ t. let y : At j ≡ At i = rw t at h in let z : j ≡ i = cc in omega arith)
+    split (p x) (λ t. let y : Some j ≡ Some i = rw t at h in let z : j ≡ i = cc in omega arith)
     (λ t. omega (arith, first_below p (j + 1) xs i (rw t at h)))
 
-pub first_inside : (s : State) (name i : ℕ) → first_signal s name ≡ At i → i < s.signal_count
+pub first_inside : (s : State) (name i : ℕ) → first_signal s name ≡ Some i → i < s.signal_count
 unfolding first_signal listed
 first_inside s name i h = omega (arith, first_below _ 0 _ i h, length-take s.signal_count s.signals)
 
@@ -144,22 +142,18 @@ module _ {none : Ending} {signals : List BufferedSignal} {count i : ℕ} {ending
   leaving_all h = l.listed_so.is ∙ rw (all_taken (omega (arith, l.low)))
 
 -- THE FIRST OF A NAME, where i is its place: the signal, and the record without it.
-unfoldable pub found_at : State → Found → Option BufferedSignal
-found_at s (At i) = Some (signal_at s i)
-found_at s Nothing = None
+unfoldable pub found_at : State → Option ℕ → Option BufferedSignal
+found_at s (Some i) = Some (signal_at s i)
+found_at s None = None
 
-unfoldable pub left_at : State → Found → State
-left_at s (At i) = removed s i
-left_at s Nothing = s
+unfoldable pub left_at : State → Option ℕ → State
+left_at s (Some i) = removed s i
+left_at s None = s
 
-abbrev located : Option ℕ → Found
-located (Some i) = At i
-located None = Nothing
-
-first_located : {A : Type 0} (p : A → Bool) (j : ℕ) (xs : List A) → first p (λ i _. At i) Nothing j xs ≡ located (position_from p j xs)
+first_position : {A : Type 0} (p : A → Bool) (j : ℕ) (xs : List A) → first p (λ i _. Some i) None j xs ≡ position_from p j xs
 unfolding first when◌then◌else◌
-first_located p j [] = refl
-first_located p j (x ∷ xs) = split (p x) (λ h. rw h) (λ h. rw h (first_located p (j + 1) xs))
+first_position p j [] = refl
+first_position p j (x ∷ xs) = split (p x) (λ h. rw h) (λ h. rw h (first_position p (j + 1) xs))
 
 -- The later ones moved down by one, and the last place cleared: the element at i is left out.
 remove_at_parts : {A : Type 0} (i : ℕ) (xs : List A) → i < length xs → remove_at i xs ≡ take i xs ++ drop (i + 1) xs
@@ -180,12 +174,12 @@ moved_down {A} z xs i n long h =
 
 -- In code: rows are the places that are looked at, o the first of the name among them.
 module _ (s : State) (name : ℕ) {rows : ℕ} {o : Option ℕ} (long : length s.signals ≡ 64) (all : rows ≡ min store s.signal_count) (found : o ≡ position (λ x. eqb x.signal name) (take rows s.signals)) where
-  first_is : first_signal s name ≡ located o
+  first_is : first_signal s name ≡ o
   unfolding first_signal listed
   first_is =
       let k : rows ≡ min s.signal_count (length s.signals) = omega arith in
       let e : take rows s.signals ≡ take s.signal_count s.signals = ap {B = List BufferedSignal} (λ j. take j s.signals) k ∙ take_min s.signal_count s.signals in
-      first_located (λ x. eqb x.signal name) 0 (take s.signal_count s.signals) ∙ rw (found, e, ← position_from-zero (λ x. eqb x.signal name) (take s.signal_count s.signals))
+      first_position (λ x. eqb x.signal name) 0 (take s.signal_count s.signals) ∙ rw (found, e, ← position_from-zero (λ x. eqb x.signal name) (take s.signal_count s.signals))
 
   pub first_none : {r : Option BufferedSignal} → o ≡ None → r ≡ None → (r ≡ found_at s (first_signal s name)) × (s ≡ left_at s (first_signal s name))
   unfolding found_at left_at

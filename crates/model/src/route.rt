@@ -11,8 +11,8 @@ ghost use Rattle.model.specs.RouteLaws.{routing_of, next_of, stored_by, unstored
 use crate::answer::{Ending, Note};
 use crate::moves::{Move, Next};
 use crate::{BufferedSignal, NodeResult, Output, Position, State, Streak, code};
+use workflow::code as sheet;
 use workflow::layout::{NODES, NUMBERS};
-use workflow::{Found, code as sheet};
 
 // Which outcome a node follows, with its next streak and the note that goes with it.
 #[derive(Clone, Copy)]
@@ -33,10 +33,10 @@ fn streak_count(streak: Streak, outcome: u32) -> u32
 }
 
 // With a limit on the outcome, and a streak at it: the streak goes and exhausted is followed. Without a limit the streak goes.
-fn routing_of(limit: Found, streak: Streak, node: u32, outcome: u32) -> Routing
+fn routing_of(limit: Option<u32>, streak: Streak, node: u32, outcome: u32) -> Routing
     ensures { result ≡ routing_of limit streak node outcome }
 {
-    let Found::At(most) = limit else {
+    let Some(most) = limit else {
         return Routing {
             streak: Streak::none(),
             outcome,
@@ -68,15 +68,15 @@ fn routing_of(limit: Found, streak: Streak, node: u32, outcome: u32) -> Routing
 }
 
 // Where a route leads; an accepted sheet routes what comes here.
-fn next_of(target: Found, node: u32) -> Next
+fn next_of(target: Option<u32>, node: u32) -> Next
     ensures { result ≡ next_of target node }
 {
     match target {
-        Found::At(t) => Next::Enter {
+        Some(t) => Next::Enter {
             node: t,
             from: node,
         },
-        Found::Nothing => Next::Refuse(code::INVARIANT),
+        None => Next::Refuse(code::INVARIANT),
     }
 }
 
@@ -98,11 +98,11 @@ fn is_reserved(w: &[u32; NUMBERS], outcome: u32) -> bool
 }
 
 // The route of a signal's outcome: none for exhausted in format 2.
-fn signal_route(w: &[u32; NUMBERS], node: u32, outcome: u32) -> Found
+fn signal_route(w: &[u32; NUMBERS], node: u32, outcome: u32) -> Option<u32>
     ensures { result ≡ signal_route (workflow w.now) node outcome }
 {
     if is_reserved(w, outcome) {
-        return Found::Nothing;
+        return None;
     }
     workflow::find_route(w, node, outcome)
 }
@@ -179,7 +179,7 @@ fn taken(
     ensures { Makes position streak result (λ s. take (workflow w.now) s signal missed) }
 {
     let outcome = signal_outcome(signal.outcome);
-    let Found::At(_) = signal_route(w, position.node, outcome) else {
+    let Some(_) = signal_route(w, position.node, outcome) else {
         let note = Note {
             code: code::NOTE_UNROUTED,
             node: position.node,

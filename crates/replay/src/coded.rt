@@ -1,215 +1,157 @@
 // The recorded calls in bytes (docs/BYTES.md): each is written as bytes, made, and its answer compared with the bytes of the recorded one.
-ghost use Rattle.std.specs.Prelude.{◌≡◌, ◌≤◌, length};
 
+use crate::sample::Sample;
 use host::layout;
-
-const SHEET: usize = workflow::layout::NUMBERS;
-
-const CALL: usize = layout::CALL;
-
-const RECORD: usize = layout::RECORD;
-
-const ANSWER: usize = layout::ANSWER;
+use std::alloc::{AllocError, Global};
+use workflow::layout::NUMBERS as SHEET;
 
 // More bytes than a call has, or an answer.
 const ENOUGH: usize = 65536;
 
 const HALF: u64 = 0x1_0000_0000;
 
-fn byte(out: &mut [u8], at: usize, b: u8) -> usize {
-    if at < out.len() {
-        out[at] = b;
-        return at + 1;
-    }
-    at
+// What a call in bytes shows.
+#[derive(Clone, Copy, PartialEq, Eq)]
+pub enum Judged {
+    Unwritten,
+    Agrees,
+    Differs,
 }
 
-// A number as LEB128, and the place behind it.
-fn number(out: &mut [u8], at: usize, n: u64) -> usize {
-    let mut place = at;
+// A number as LEB128.
+fn number(out: &mut Vec<u8>, n: u64) -> Result<(), AllocError> {
     let mut rest = n;
     while 128 <= rest {
-        place = byte(out, place, (rest % 128) as u8 + 128);
-        rest = rest / 128;
+        out.push((rest % 128) as u8 + 128)?;
+        rest /= 128;
     }
-    byte(out, place, rest as u8)
+    out.push(rest as u8)?;
+    Ok(())
 }
 
-fn numbers(out: &mut [u8], at: usize, xs: &[u64], first: usize, end: usize) -> usize {
-    if xs.len() < end {
-        return at;
+fn numbers(out: &mut Vec<u8>, xs: &[u64]) -> Result<(), AllocError> {
+    for x in xs {
+        number(out, *x)?;
     }
-    let mut place = at;
-    for i in first..end {
-        place = number(out, place, xs[i]);
-    }
-    place
+    Ok(())
 }
 
-fn copied(out: &mut [u8], at: usize, from: &[u8], size: u64) -> usize {
-    if (ENOUGH as u64) < size {
-        return at;
+// As many rows as a count says.
+fn rows<const N: usize>(out: &mut Vec<u8>, xs: &[[u64; N]], count: u64) -> Result<(), AllocError> {
+    for row in xs.iter().take(count as usize) {
+        numbers(out, row)?;
     }
-    let end = size as usize;
-    if from.len() < end {
-        return at;
-    }
-    let mut place = at;
-    for i in 0..end {
-        place = byte(out, place, from[i]);
-    }
-    place
+    Ok(())
 }
 
-fn same(a: &[u8; ENOUGH], b: &[u8; ENOUGH]) -> bool {
-    for i in 0..ENOUGH {
-        if a[i] != b[i] {
-            return false;
-        }
-    }
-    true
-}
-
-// A count of rows, 0 where there would be too many.
-fn count(xs: &[u64], at: usize) -> usize
-    ensures { result ≤ 65 }
-{
-    if at < xs.len() {
-        if xs[at] < 66 {
-            return xs[at] as usize;
-        }
-    }
-    0
-}
-
-// A run's bytes, 0 where it isn't written.
-fn run(out: &mut [u8], at: usize, record: &[u64]) -> usize {
-    let mut bytes = [0u8; ENOUGH];
-    let told = in_bytes::kuxhoveza_write_run(record, &mut bytes);
-    if told % HALF == 0 {
-        return copied(out, at, &bytes, told / HALF);
-    }
-    0
-}
-
-fn given(out: &mut [u8], at: usize, mark: u64, record: &[u64; RECORD]) -> usize {
-    if mark == 1 {
-        return run(out, at, record);
-    }
-    at
-}
-
-// The call, 0 where its sheet or its run isn't written, or it has more mapping answers than a call in bytes can have.
-fn call(out: &mut [u8], sheet: &[u32; SHEET], call: &[u64; CALL], record: &[u64; RECORD]) -> usize {
-    let mut bytes = [0u8; ENOUGH];
-    let told = in_bytes::kuxhoveza_write_sheet(sheet, &mut bytes);
+// What an exported function wrote into a buffer, by what it returned; none where it refused.
+fn written(mut buffer: Vec<u8>, told: u64) -> Option<Vec<u8>> {
     if told % HALF != 0 {
-        return 0;
+        return None;
     }
-    if (layout::MAPPINGS as u64) < call[layout::CALL_ANSWERED] {
-        return 0;
+    buffer.truncate((told / HALF) as usize);
+    Some(buffer)
+}
+
+fn buffer(alloc: Global) -> Result<Vec<u8>, AllocError> {
+    Ok(vec![in alloc; 0u8; ENOUGH]?)
+}
+
+fn sheet(alloc: Global, sheet: &[u32; SHEET]) -> Result<Option<Vec<u8>>, AllocError> {
+    let mut out = buffer(alloc)?;
+    let told = in_bytes::kuxhoveza_write_sheet(sheet, &mut out);
+    Ok(written(out, told))
+}
+
+fn run(alloc: Global, record: &[u64]) -> Result<Option<Vec<u8>>, AllocError> {
+    let mut out = buffer(alloc)?;
+    let told = in_bytes::kuxhoveza_write_run(record, &mut out);
+    Ok(written(out, told))
+}
+
+// A recorded call; none where its sheet or its run isn't written, or it has more mapping answers than a call in bytes can have.
+fn call(alloc: Global, sample: &Sample) -> Result<Option<Vec<u8>>, AllocError> {
+    let call = &sample.call;
+    let answered = call[layout::CALL_ANSWERED];
+    if answered > layout::MAPPINGS as u64 {
+        return Ok(None);
     }
-    let limits = numbers(out, 0, call, 0, layout::CALL_HAS_RECORD);
-    let behind = copied(out, limits, &bytes, told / HALF);
-    let mark = numbers(
-        out,
-        behind,
-        call,
-        layout::CALL_HAS_RECORD,
-        layout::CALL_SEQUENCE,
-    );
-    let place = given(out, mark, call[layout::CALL_HAS_RECORD], record);
-    if place == 0 {
-        return 0;
-    }
-    let event = numbers(
-        out,
-        place,
-        call,
-        layout::CALL_SEQUENCE,
-        layout::CALL_MAPPINGS,
-    );
+    let Some(graph) = sheet(alloc, &sample.sheet)? else {
+        return Ok(None);
+    };
+    let mut out = Vec::new(alloc);
+    numbers(&mut out, &call[..layout::CALL_HAS_RECORD])?;
+    out.extend_from_slice(&graph)?;
     numbers(
-        out,
-        event,
-        call,
-        layout::CALL_MAPPINGS,
-        layout::CALL_MAPPINGS + layout::MAPPING_WIDTH * count(call, layout::CALL_ANSWERED),
-    )
-}
-
-fn record_of(xs: &[u64; ANSWER]) -> [u64; RECORD]
-    ensures { length result ≡ 918 }
-{
-    let mut record = [0u64; RECORD];
-    for i in 0..RECORD {
-        record[i] = xs[layout::ANSWER_RECORD + i];
+        &mut out,
+        &call[layout::CALL_HAS_RECORD..layout::CALL_SEQUENCE],
+    )?;
+    if call[layout::CALL_HAS_RECORD] == 1 {
+        let Some(given) = run(alloc, &sample.record)? else {
+            return Ok(None);
+        };
+        out.extend_from_slice(&given)?;
     }
-    record
+    numbers(
+        &mut out,
+        &call[layout::CALL_SEQUENCE..layout::CALL_MAPPINGS],
+    )?;
+    let (mappings, _) = call[layout::CALL_MAPPINGS..].as_chunks::<{ layout::MAPPING_WIDTH }>();
+    rows(&mut out, mappings, answered)?;
+    Ok(Some(out))
 }
 
-// The bytes of a recorded answer.
-fn answer(out: &mut [u8], xs: &[u64; ANSWER]) -> usize {
-    let record = record_of(xs);
+// A recorded answer that isn't a refusal; none where its run isn't written.
+fn answer(alloc: Global, xs: &[u64; layout::ANSWER]) -> Result<Option<Vec<u8>>, AllocError> {
+    let mut out = Vec::new(alloc);
     if xs[layout::ANSWER_KIND] == 2 {
-        let want = numbers(out, 0, xs, 0, layout::WANT_WIDTH);
-        return run(out, want, &record);
+        numbers(&mut out, &xs[..layout::WANT_WIDTH])?;
+    } else {
+        let notes = &xs[layout::ANSWER_NOTES..layout::ANSWER_ENDINGS];
+        let (notes, _) = notes.as_chunks::<{ layout::NOTE_WIDTH }>();
+        let endings = &xs[layout::ANSWER_ENDINGS..layout::ANSWER_RECORD];
+        let (endings, _) = endings.as_chunks::<{ layout::ENDING_WIDTH }>();
+        numbers(&mut out, &xs[..layout::ANSWER_NOTES])?;
+        rows(&mut out, notes, xs[layout::ANSWER_NOTED])?;
+        rows(&mut out, endings, xs[layout::ANSWER_ENDED])?;
     }
-    let notes = numbers(
-        out,
-        0,
-        xs,
-        0,
-        layout::ANSWER_NOTES + layout::NOTE_WIDTH * count(xs, layout::ANSWER_NOTED),
-    );
-    let endings = numbers(
-        out,
-        notes,
-        xs,
-        layout::ANSWER_ENDINGS,
-        layout::ANSWER_ENDINGS + layout::ENDING_WIDTH * count(xs, layout::ANSWER_ENDED),
-    );
-    run(out, endings, &record)
+    let Some(record) = run(alloc, &xs[layout::ANSWER_RECORD..])? else {
+        return Ok(None);
+    };
+    out.extend_from_slice(&record)?;
+    Ok(Some(out))
 }
 
-// What the call in bytes says is what the recorded answer says.
-fn agrees(told: u64, out: &[u8; ENOUGH], xs: &[u64; ANSWER]) -> bool {
+// What the call in bytes says is what the recorded answer says, and past its bytes nothing is written.
+fn agrees(
+    alloc: Global,
+    told: u64,
+    out: &Vec<u8>,
+    xs: &[u64; layout::ANSWER],
+) -> Result<bool, AllocError> {
     if xs[layout::ANSWER_KIND] == 3 {
-        if told % HALF == xs[layout::ANSWER_REFUSAL_NUMBER] {
-            return told / HALF == xs[layout::ANSWER_REFUSAL_ITEM];
-        }
-        return false;
+        return Ok(
+            told % HALF == xs[layout::ANSWER_REFUSAL_NUMBER]
+                && told / HALF == xs[layout::ANSWER_REFUSAL_ITEM],
+        );
     }
-    let mut due = [0u8; ENOUGH];
-    let size = answer(&mut due, xs);
-    if told % HALF != 0 {
-        return false;
-    }
-    if told / HALF != (size as u64) {
-        return false;
-    }
-    same(out, &due)
+    let Some(mut due) = answer(alloc, xs)? else {
+        return Ok(false);
+    };
+    let size = due.len() as u64;
+    due.resize(ENOUGH, 0)?;
+    Ok(told % HALF == 0 && told / HALF == size && *out == due)
 }
 
-// 0 where the call isn't written, 1 where it agrees, 2 where it doesn't.
-pub fn judged(
-    sheet: &[u32; SHEET],
-    numbers: &[u64; CALL],
-    record: &[u64; RECORD],
-    xs: &[u64; ANSWER],
-) -> u32 {
-    let mut bytes = [0u8; ENOUGH];
-    let size = call(&mut bytes, sheet, numbers, record);
-    if size == 0 {
-        return 0;
-    }
-    if ENOUGH <= size {
-        return 0;
-    }
-    let mut out = [0u8; ENOUGH];
-    let told = in_bytes::kuxhoveza_call(&bytes[..size], &mut out);
-    if agrees(told, &out, xs) {
-        return 1;
-    }
-    2
+pub fn judge(alloc: Global, sample: &Sample) -> Result<Judged, AllocError> {
+    let Some(bytes) = call(alloc, sample)? else {
+        return Ok(Judged::Unwritten);
+    };
+    let mut out = buffer(alloc)?;
+    let told = in_bytes::kuxhoveza_call(&bytes, &mut out);
+    Ok(if agrees(alloc, told, &out, &sample.answer)? {
+        Judged::Agrees
+    } else {
+        Judged::Differs
+    })
 }

@@ -12,10 +12,6 @@ use Rattle.laws.specs.Settle.{settle}
 use Rattle.workflow.specs.Code.{activity}
 use Rattle.workflow.specs.View.{Workflow}
 use Rattle.workflow.specs.Lookup.{node_slots, node_of, limit_of}
-use Rattle.workflow.specs.declared.Found.{Found}
-use Rattle.workflow.specs.declared.Found.TheVariants.{At, Nothing}
-use Rattle.graph.specs.declared.Verdict.{Verdict}
-use Rattle.graph.specs.declared.Verdict.TheVariants.{Fine, Broken}
 use Rattle.model.specs.Code.{running, run_failed, run_completed, needs_intervention, scheduled, unknown, stuck}
 use Rattle.model.specs.declared.ErrorInfo.{ErrorInfo}
 use Rattle.model.specs.declared.Output.{Output}
@@ -315,15 +311,15 @@ module _ (f : Workflow) (its : Sheet f) where
         (omega (arith, its.activations, leb-false f.max_activations s.activations a))))))
 
   -- ROUTING.
-  good_follow : (s : State) (n : ℕ) (x : Found) → Fits s → Good (follow_to f s n x)
+  good_follow : (s : State) (n : ℕ) (x : Option ℕ) → Fits s → Good (follow_to f s n x)
   unfolding follow_to
-  good_follow s n (At t) h = h
-  good_follow s n Nothing h = h
+  good_follow s n (Some t) h = h
+  good_follow s n None h = h
 
-  good_limited : (s : State) (n o : ℕ) (x : Found) → limit_of f n o ≡ x → Name o → Fits s → Good (route_limited f s n o x)
+  good_limited : (s : State) (n o : ℕ) (x : Option ℕ) → limit_of f n o ≡ x → Name o → Fits s → Good (route_limited f s n o x)
   unfolding route_limited
-  good_limited s n o Nothing e h t = good_follow _ n _ (fits_streak t n no_streak no_streak_fits)
-  good_limited s n o (At x) e h t =
+  good_limited s n o None e h t = good_follow _ n _ (fits_streak t n no_streak no_streak_fits)
+  good_limited s n o (Some x) e h t =
       either Good _
       (λ _. good_follow _ n _ (fits_streak t n no_streak no_streak_fits))
       (λ g. good_follow _ n _ (fits_streak t n _ (record { outcome = h; count = omega (arith, its.limits n o x e, leb-false x (streak_count (streak_of s n) o) g) })))
@@ -334,10 +330,10 @@ module _ (f : Workflow) (its : Sheet f) where
       either Good _ (λ _. t) (λ _. good_limited _ _ o _ refl h (fits_result t _ _ (record { visit = t.position.visit; outcome = h; output = g })))
 
   -- TAKING A SIGNAL.
-  good_take_by : (r : Found) (s : State) (x : BufferedSignal) (k : Next) → SignalFits x → Fits s → Good (take_by f r s x k)
+  good_take_by : (r : Option ℕ) (s : State) (x : BufferedSignal) (k : Next) → SignalFits x → Fits s → Good (take_by f r s x k)
   unfolding take_by
-  good_take_by (At _) s x k h t = good_route s _ _ (signal_named x.outcome h.outcome) h.data_handle t
-  good_take_by Nothing s x k h t = t
+  good_take_by (Some _) s x k h t = good_route s _ _ (signal_named x.outcome h.outcome) h.data_handle t
+  good_take_by None s x k h t = t
 
   -- THE EVENTS.
   good_retry : (s : State) (d : ℕ) → Fits s → Good (retry f s d)
@@ -418,10 +414,10 @@ module _ (f : Workflow) (its : Sheet f) where
     unfolding counting
     held_counting x v t g = either Held _ (λ _. t) (λ _. g)
 
-    held_consume : (y : Found) (x : Machine) → Held x → Held (consume_by f limit e m y x)
+    held_consume : (y : Option ℕ) (x : Machine) → Held x → Held (consume_by f limit e m y x)
     unfolding consume_by
-    held_consume (At i) x t = held_counting x _ t (good_take_by _ _ _ Consume (signal_fits t i) (fits_removed t i))
-    held_consume Nothing x t = t
+    held_consume (Some i) x t = held_counting x _ t (good_take_by _ _ _ Consume (signal_fits t i) (fits_removed t i))
+    held_consume None x t = t
 
     held_advance : (n : Next) (x : Machine) → Held x → Held (advance_by f limit e m n x)
     unfolding advance_by
@@ -461,8 +457,8 @@ given_fits (last s) c h t = t
 
 by_verdict : (f : Workflow) (r : Last) (c : Call) (v : Verdict) → admission f r c ≡ v → SheetFits f → CallFits c → LastFits r → RecordFits (transition_by v f r c)
 unfolding transition_by
-by_verdict f r c (Broken k i) e h g t = tt
-by_verdict f r c Fine e h g t =
+by_verdict f r c (Err x) e h g t = tt
+by_verdict f r c (Ok tt) e h g t =
     finish_fits _ c.limits _ (held_driven f (admitted_sheet f r c h e) c.limits.microsteps c.event c.mappings g.event g.answers (given r c) (given_fits r c g t))
 
 pub kept_fits : (f : Workflow) (standing : Last) (call : Call) → SheetFits f → CallFits call → LastFits standing → RecordFits (transition f standing call)

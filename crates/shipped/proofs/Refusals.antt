@@ -1,6 +1,6 @@
 -- A call is refused with a number from 1 to 30: so 31 and 32, with which bytes are turned away, are no call's refusal.
-use Rattle.std.specs.Prelude.{◌≡◌, refl, Bool, true, false, ◌⊎◌, List, [], ◌∷◌, ℕ, ◌<◌, ltb}
-use Rattle.std.proofs.Common.{inl, inr, ltb-true}
+use Rattle.std.specs.Prelude.{◌≡◌, refl, Bool, true, false, ◌⊎◌, List, [], ◌∷◌, ℕ, ◌<◌, ltb, Option, Some, None, Ok, Err}
+use Rattle.std.proofs.Common.{ap, inl, inr, ltb-true}
 use native.Mathlib.Omega.{arith}
 use Rattle.laws.specs.Bool.{when◌then◌else◌, either}
 use Rattle.laws.specs.Rows.{span}
@@ -8,12 +8,9 @@ use Rattle.laws.specs.In.{Hit, hit, miss, hits}
 use Rattle.workflow.specs.Code.{none}
 use Rattle.workflow.specs.View.{Workflow}
 use Rattle.workflow.specs.Sound.{Sound}
-use Rattle.workflow.specs.declared.Found.{Found}
-use Rattle.workflow.specs.declared.Found.TheVariants.{At, Nothing}
+use Rattle.graph.specs.declared.Broken.{Broken}
 use Rattle.graph.specs.declared.Ceilings.{Ceilings}
-use Rattle.graph.specs.declared.Verdict.{Verdict}
-use Rattle.graph.specs.declared.Verdict.TheVariants.{Fine, Broken}
-use Rattle.graph.specs.Verdict.{rule, rule_at, first_broken, action_verdict, actions_verdict, verdict}
+use Rattle.graph.specs.Verdict.{rule, rule_at, first_broken, action_verdict, actions_verdict, verdict, Verdict, broken}
 use Rattle.model.specs.declared.State.{State}
 use Rattle.model.specs.declared.moves.Next.{Next}
 use Rattle.model.specs.declared.moves.Next.TheVariants.{Rest, Enter, Take, Consume, Wants, Refuse}
@@ -28,26 +25,30 @@ use Rattle.demand3.proofs.Driver.{Checks, checked_driven}
 
 -- BEFORE THE STEP.
 record Known (v : Verdict) : Type 0 where
-  known : (k i : ℕ) → v ≡ Broken k i → (0 < k) × (k < 31)
+  known : (x : Broken) → v ≡ Err x → (0 < x.rule) × (x.rule < 31)
 
-known_fine : Known Fine
-known_fine = record { known = λ k i e. let z : ◌≡◌ {A = ℕ} 0 1 = cc in absurd (omega arith) }
+abbrev rule_of : Verdict → ℕ
+rule_of (Ok tt) = 0
+rule_of (Err x) = x.rule
 
-known_broken : (n i : ℕ) → ltb 0 n ≡ true → ltb n 31 ≡ true → Known (Broken n i)
+known_fine : Known (Ok tt)
+known_fine = record { known = λ x e. let z : ◌≡◌ {A = ℕ} 0 1 = cc in absurd (omega arith) }
+
+known_broken : (n i : ℕ) → ltb 0 n ≡ true → ltb n 31 ≡ true → Known (broken n i)
 known_broken n i a b =
     let x = ltb-true 0 n a in
     let y = ltb-true n 31 b in
-    record { known = λ k j e. let z : n ≡ k = cc in (omega arith, omega arith) }
+    record { known = λ z e. let q : n ≡ z.rule = ap rule_of e in (omega arith, omega arith) }
 
 known_rule : (n : ℕ) (b : Bool) → ltb 0 n ≡ true → ltb n 31 ≡ true → Known (rule n b)
 unfolding when◌then◌else◌
 known_rule n true x y = known_fine
 known_rule n false x y = known_broken n none x y
 
-known_rule_at : (n : ℕ) (x : Found) → ltb 0 n ≡ true → ltb n 31 ≡ true → Known (rule_at n x)
+known_rule_at : (n : ℕ) (x : Option ℕ) → ltb 0 n ≡ true → ltb n 31 ≡ true → Known (rule_at n x)
 unfolding rule_at
-known_rule_at n (At i) x y = known_broken n i x y
-known_rule_at n Nothing x y = known_fine
+known_rule_at n (Some i) x y = known_broken n i x y
+known_rule_at n None x y = known_fine
 
 known_none : Known (first_broken [])
 unfolding first_broken
@@ -55,17 +56,17 @@ known_none = known_fine
 
 known_next : (v : Verdict) (vs : List Verdict) → Known v → Known (first_broken vs) → Known (first_broken (v ∷ vs))
 unfolding first_broken
-known_next Fine vs m n = n
-known_next (Broken k i) vs m n = m
+known_next (Ok tt) vs m n = n
+known_next (Err x) vs m n = m
 
 ruleset known_stages = (known_none, known_next, known_rule, known_rule_at)
 
-known_if : (b : Bool) (n i : ℕ) {v : Verdict} → ltb 0 n ≡ true → ltb n 31 ≡ true → Known v → Known (when b then Broken n i else v)
+known_if : (b : Bool) (n i : ℕ) {v : Verdict} → ltb 0 n ≡ true → ltb n 31 ≡ true → Known v → Known (when b then broken n i else v)
 unfolding when◌then◌else◌
 known_if true n i x y m = known_broken n i x y
 known_if false n i x y m = m
 
-known_hit : (f : Workflow) (c : Ceilings) {p : ℕ → Bool} {xs : List ℕ} {w : Verdict} → Hit p (λ _ a. action_verdict f c a) Fine xs w → Known w
+known_hit : (f : Workflow) (c : Ceilings) {p : ℕ → Bool} {xs : List ℕ} {w : Verdict} → Hit p (λ _ a. action_verdict f c a) (Ok tt) xs w → Known w
 known_hit f c (hit j a i t) = search (known_if, known_fine)
 known_hit f c (miss g) = known_fine
 
@@ -112,11 +113,11 @@ module _ (f : Workflow) (sheet : Sound f) (c : Call) (s : State) (b : Begins f s
 
 known_by : (f : Workflow) (r : Last) (c : Call) (v : Verdict) → admission f r c ≡ v → SizedLast r → KnownAnswer (transition_by v f r c)
 unfolding transition_by
-known_by f r c Fine e z =
+known_by f r c (Ok tt) e z =
     let a = admitted f r c e in
     let b = begins f r c z a in
     finishes f a.sheet c (given r c) b _ (checked_driven f a.sheet c.limits.microsteps c.event c.mappings (given r c) b.slotted.room b.tidy)
-known_by f r c (Broken k n) e z = (known_admission f r c).known k n e
+known_by f r c (Err x) e z = (known_admission f r c).known x e
 
 pub known_answer : (f : Workflow) (r : Last) (c : Call) → SizedLast r → KnownAnswer (transition f r c)
 unfolding transition

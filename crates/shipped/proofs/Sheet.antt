@@ -1,5 +1,5 @@
 -- What the numbers of a sheet can be that a run takes over into its record.
-use Rattle.std.specs.Prelude.{◌≡◌, Bool, true, false, List, ℕ, ◌+◌, ◌<◌, get_or}
+use Rattle.std.specs.Prelude.{◌≡◌, Bool, true, false, List, ℕ, ◌+◌, ◌<◌, get_or, Option, Some, None, Ok}
 use Rattle.std.proofs.lemmas.Bool.{false≢true}
 use Rattle.std.proofs.Common.{arith}
 use borrow.Author.Tests.{eq-eqb, eqb-true, ltb-true, leb-false}
@@ -12,15 +12,12 @@ use Rattle.workflow.specs.Layout as layout
 use Rattle.workflow.specs.Lookup.{node_of, is_limit, limit_of}
 use Rattle.workflow.specs.declared.Node.{Node}
 use Rattle.workflow.specs.declared.Limit.{Limit}
-use Rattle.workflow.specs.declared.Found.{Found}
-use Rattle.workflow.specs.declared.Found.TheVariants.{At, Nothing}
 use Rattle.graph.specs.Form.{formed_node, form}
 use Rattle.graph.specs.Rules.{breaks_8}
 use Rattle.graph.specs.SearchLaws.{parts_of}
 use Rattle.graph.specs.Lowest.{lowest_none}
 use Rattle.graph.specs.Accepted.{Rules, rules}
 use Rattle.graph.specs.Chain.{stage, stage_fine}
-use Rattle.graph.specs.declared.Verdict.TheVariants.{Fine}
 use Rattle.graph.specs.Verdict.{verdict}
 use Rattle.kernel.specs.declared.Call.{Call}
 use Rattle.kernel.specs.Call.{Last, admission}
@@ -61,7 +58,7 @@ module _ (w : List ℕ) (small : All Number w) where
 pub record Sheet (f : Workflow) : Type 0 where
   pub visits : Number f.max_visits_per_node
   pub activations : Number f.max_activations
-  pub limits : (n o x : ℕ) → limit_of f n o ≡ At x → Number x
+  pub limits : (n o x : ℕ) → limit_of f n o ≡ Some x → Number x
   pub code_of : (n : ℕ) → Code (node_of f n).code
   pub detail_of : (n : ℕ) → Number (node_of f n).detail
   pub action_of : (n : ℕ) → n < f.node_count → (node_of f n).kind ≡ activity → Name (node_of f n).action
@@ -82,7 +79,7 @@ node_code x =
     (λ h. absurd (false≢true h)))))
 
 module _ (f : Workflow) (t : SheetFits f) (r : Rules f) where
-  limit_there : (n o k : ℕ) {w : Found} → Hit (is_limit n o) (λ _ x. At x.limit) Nothing f.limits w → w ≡ At k → Number k
+  limit_there : (n o k : ℕ) {w : Option ℕ} → Hit (is_limit n o) (λ _ x. Some x.limit) None f.limits w → w ≡ Some k → Number k
   limit_there n o k (hit j x i p) e = let z : x.limit ≡ k = cc in omega (arith, all_in (λ (x : Limit). Number x.limit) t.limits i)
   limit_there n o k (miss g) e = let z : ◌≡◌ {A = ℕ} 0 1 = cc in absurd (omega arith)
 
@@ -109,8 +106,8 @@ module _ (f : Workflow) (t : SheetFits f) (r : Rules f) where
       }
 
 -- The sheet of an admitted call.
-pub admitted_sheet : (f : Workflow) (r : Last) (c : Call) → SheetFits f → admission f r c ≡ Fine → Sheet f
+pub admitted_sheet : (f : Workflow) (r : Last) (c : Call) → SheetFits f → admission f r c ≡ Ok tt → Sheet f
 unfolding admission
 admitted_sheet f r c h e =
-    let v : verdict f c.ceilings ≡ Fine = stage_fine e (search stage depth 8) in
+    let v : verdict f c.ceilings ≡ Ok tt = stage_fine e (search stage depth 8) in
     sheet f h (rules f c.ceilings v)

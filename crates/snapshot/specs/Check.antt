@@ -6,8 +6,6 @@ use Rattle.workflow.specs.Code.{none, activity, await_signal}
 use Rattle.workflow.specs.Layout.{node_room}
 use Rattle.model.specs.Code.{largest, running, waiting, needs_intervention, run_completed, run_failed, scheduled, unknown, stuck}
 use Rattle.workflow.specs.declared.Node.{Node}
-use Rattle.workflow.specs.declared.Found.{Found}
-use Rattle.workflow.specs.declared.Found.TheVariants.{At, Nothing}
 use Rattle.workflow.specs.View.{Workflow}
 use Rattle.workflow.specs.Lookup.{is_0_2, node_of, limit_of}
 use Rattle.model.specs.declared.Output.{Output}
@@ -37,9 +35,9 @@ abbrev pub streak_zero : Streak → Bool
 streak_zero streak = eqb streak.outcome 0 and eqb streak.count 0
 
 -- A streak is one that the node's loop limits allow: its outcome has a limit, and its count is from 1 to the limit.
-abbrev pub allows : Found → (count : ℕ) → Bool
-allows (At limit) count = leb count limit
-allows Nothing count = false
+abbrev pub allows : Option ℕ → (count : ℕ) → Bool
+allows (Some limit) count = leb count limit
+allows None count = false
 
 abbrev pub streak_fits : Workflow → (node : ℕ) → Streak → Bool
 streak_fits sheet node streak =

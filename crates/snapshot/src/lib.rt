@@ -13,7 +13,7 @@ use model::{
     ErrorInfo, InvocationState, NodeResult, Output, Position, RunResult, State, Streak, Visits, code,
 };
 use workflow::layout::{NODES, NUMBERS};
-use workflow::{Found, Node, code as sheet};
+use workflow::{Node, code as sheet};
 
 // The slots of a node.
 
@@ -46,8 +46,8 @@ fn streak_fits(w: &[u32; NUMBERS], node: u32, x: Streak) -> bool
         return x.outcome == 0;
     }
     match workflow::find_limit(w, node, x.outcome) {
-        Found::At(limit) => x.count <= limit,
-        Found::Nothing => false,
+        Some(limit) => x.count <= limit,
+        None => false,
     }
 }
 

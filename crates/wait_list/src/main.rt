@@ -7,6 +7,7 @@ ghost use Rattle.waits.specs.Waits.{step, waits};
 use std::io;
 
 // The wait after a wait.
+#[tactic(auto, unfolding(waits::specs::Waits::step))]
 fn next_wait(x: u64) -> u64
     requires { x < 2 ^ 32 }
     ensures { result ≡ step x }
@@ -19,25 +20,15 @@ fn worked_out() -> [u64; 256]
     ensures { result ≡ waits }
 {
     let mut list = [640u64; 256];
-    let mut n: usize = 1;
-    while n < 256 {
+    for n in 1..256 {
         list[n] = next_wait(list[n - 1]);
-        n += 1;
     }
     list
 }
 
-// The line of an entry.
-fn show(rt: &impl Print, n: usize, wait: u64) -> io::Result<()> {
-    println!(rt; "{n} {wait}")
-}
-
 fn main(rt: HostRuntime) -> io::Result<()> {
-    let list = worked_out();
-    let mut n: usize = 0;
-    while n < 256 {
-        show(&rt, n, list[n])?;
-        n += 1;
+    for (n, wait) in worked_out().iter().enumerate() {
+        println!(rt; "{n} {wait}")?;
     }
     Ok(())
 }

@@ -32,16 +32,11 @@ const WAITS: [u64; 256] = [
 fn entry_of(attempt: u32) -> usize
     ensures { result ≡ entry attempt }
 {
-    if attempt == 0 {
-        return 0;
-    }
-    if attempt > 255 {
-        return 255;
-    }
-    attempt as usize - 1
+    attempt.saturating_sub(1).min(255) as usize
 }
 
 // How long to wait after an attempt, in milliseconds.
+#[tactic(auto, using(crate::specs::WaitsLaws::entry_below))]
 pub fn wait_after(attempt: u32) -> u64
     ensures { result ≡ wait (entry attempt) }
 {

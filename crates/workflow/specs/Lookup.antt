@@ -1,5 +1,5 @@
 -- Looking things up in a sheet.
-use Rattle.std.specs.Prelude.{Bool, true, false, ℕ, min, get_or, eqb}
+use Rattle.std.specs.Prelude.{Bool, ℕ, min, get_or, eqb, Option, Some, None, is_some}
 use Rattle.laws.specs.Bool.{◌and◌}
 use Rattle.laws.specs.First.{first, some}
 use Rattle.workflow.specs.Code.{format_0_2}
@@ -10,13 +10,6 @@ use Rattle.workflow.specs.declared.Route.{Route}
 use Rattle.workflow.specs.declared.Limit.{Limit}
 use Rattle.workflow.specs.declared.Action.{Action}
 use Rattle.workflow.specs.declared.Declared.{Declared}
-use Rattle.workflow.specs.declared.Found.{Found}
-use Rattle.workflow.specs.declared.Found.TheVariants.{At, Nothing}
-
--- Something was found.
-abbrev pub found : Found → Bool
-found (At number) = true
-found Nothing = false
 
 -- Format 2, the 0.2 document.
 abbrev pub is_0_2 : Workflow → Bool
@@ -41,18 +34,18 @@ are a b x y = eqb a x and eqb b y
 abbrev pub is_route : (node outcome : ℕ) → Route → Bool
 is_route node outcome route = are route.node route.outcome node outcome
 
-unfoldable pub route_of : Workflow → (node outcome : ℕ) → Found
-route_of sheet node outcome = first (is_route node outcome) (λ _ route. At route.target) Nothing 0 sheet.routes
+unfoldable pub route_of : Workflow → (node outcome : ℕ) → Option ℕ
+route_of sheet node outcome = first (is_route node outcome) (λ _ route. Some route.target) None 0 sheet.routes
 
 abbrev pub routed : Workflow → (node outcome : ℕ) → Bool
-routed sheet node outcome = found (route_of sheet node outcome)
+routed sheet node outcome = is_some (route_of sheet node outcome)
 
 -- The loop limit on an outcome at a node.
 abbrev pub is_limit : (node outcome : ℕ) → Limit → Bool
 is_limit node outcome limit = are limit.node limit.outcome node outcome
 
-unfoldable pub limit_of : Workflow → (node outcome : ℕ) → Found
-limit_of sheet node outcome = first (is_limit node outcome) (λ _ limit. At limit.limit) Nothing 0 sheet.limits
+unfoldable pub limit_of : Workflow → (node outcome : ℕ) → Option ℕ
+limit_of sheet node outcome = first (is_limit node outcome) (λ _ limit. Some limit.limit) None 0 sheet.limits
 
 -- The action declares the outcome.
 abbrev pub is_declared : (action outcome : ℕ) → Declared → Bool

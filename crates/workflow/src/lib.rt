@@ -7,7 +7,7 @@ pub mod layout;
 ghost use Rattle.std.specs.Prelude.{◌≡◌, min, ◌<◌};
 ghost use Rattle.workflow.specs.Layout.{route_room, limit_room};
 ghost use Rattle.workflow.specs.View.{workflow, no_node, node_at, route_at, limit_at, action_at, declared_at};
-ghost use Rattle.workflow.specs.Lookup.{found, is_0_2, node_of, policy_of, are, route_of, limit_of, declares};
+ghost use Rattle.workflow.specs.Lookup.{is_0_2, node_of, policy_of, are, route_of, limit_of, declares};
 ghost use Rattle.workflow.specs.RowLaws.{Columns, find_row};
 
 use crate::layout::NUMBERS;
@@ -47,13 +47,6 @@ pub struct Action {
 pub struct Declared {
     pub action: u32,
     pub outcome: u32,
-}
-
-// What a lookup finds.
-#[derive(Clone, Copy)]
-pub enum Found {
-    At(u32),
-    Nothing,
 }
 
 // A count, held to the room there is.
@@ -201,21 +194,21 @@ fn find_row(
     count: usize,
     x: u32,
     y: u32,
-) -> Found
+) -> Option<u32>
     requires { Columns major minor value count }
     ensures { result ≡ find_row w.now major minor value count x y }
 {
     let mut i: usize = 0;
     while i < count {
         if are(w[major + i], w[minor + i], x, y) {
-            return Found::At(w[value + i]);
+            return Some(w[value + i]);
         }
         i += 1;
     }
-    Found::Nothing
+    None
 }
 
-pub fn find_route(w: &[u32; NUMBERS], node: u32, outcome: u32) -> Found
+pub fn find_route(w: &[u32; NUMBERS], node: u32, outcome: u32) -> Option<u32>
     ensures { result ≡ route_of (workflow w.now) node outcome }
 {
     let count = capped(w[layout::ROUTE_COUNT], layout::ROUTES);
@@ -230,7 +223,7 @@ pub fn find_route(w: &[u32; NUMBERS], node: u32, outcome: u32) -> Found
     )
 }
 
-pub fn find_limit(w: &[u32; NUMBERS], node: u32, outcome: u32) -> Found
+pub fn find_limit(w: &[u32; NUMBERS], node: u32, outcome: u32) -> Option<u32>
     ensures { result ≡ limit_of (workflow w.now) node outcome }
 {
     let count = capped(w[layout::LIMIT_COUNT], layout::LIMITS);
@@ -243,15 +236,6 @@ pub fn find_limit(w: &[u32; NUMBERS], node: u32, outcome: u32) -> Found
         node,
         outcome,
     )
-}
-
-fn is_found(x: Found) -> bool
-    ensures { result ≡ found x }
-{
-    match x {
-        Found::At(_) => true,
-        Found::Nothing => false,
-    }
 }
 
 pub fn declares(w: &[u32; NUMBERS], action: u32, outcome: u32) -> bool
@@ -267,5 +251,5 @@ pub fn declares(w: &[u32; NUMBERS], action: u32, outcome: u32) -> bool
         action,
         outcome,
     );
-    is_found(row)
+    row.is_some()
 }

@@ -1,23 +1,23 @@
 use Rattle.graph.specs.Chain.{stops, goes_on, rule_at_passed}
 use Rattle.graph.proofs.graph_verdict.Goals as goal
 
-pub returns-then-is_broken : goal.returns-then-is_broken
-returns-then-is_broken c = stops _ c.rule_8-activities.ensures c.is_broken.ensures c.if-is_broken.true
+pub returns-in_err-rule_8 : goal.returns-in_err-rule_8
+returns-in_err-rule_8 c = stops _ c.in_err-rule_8.ensures c.from_residual.ensures.1
 
-pub returns-then-is_broken-2 : goal.returns-then-is_broken-2
-returns-then-is_broken-2 c = goes_on _ c.rule_8-activities.ensures c.is_broken.ensures c.if-is_broken.false (stops _ c.rule_9-awaits.ensures c.is_broken-2.ensures c.if-is_broken-2.true)
+pub returns-in_err-rule_9 : goal.returns-in_err-rule_9
+returns-in_err-rule_9 c = goes_on _ c.in_ok-rule_8.ensures (stops _ c.in_err-rule_9.ensures c.from_residual-in_err-rule_9.ensures.1)
 
-pub returns-then-is_broken-3 : goal.returns-then-is_broken-3
-returns-then-is_broken-3 c = goes_on _ c.rule_8-activities.ensures c.is_broken.ensures c.if-is_broken.false (goes_on _ c.rule_9-awaits.ensures c.is_broken-2.ensures c.if-is_broken-2.false (stops _ c.rule_12-limits.ensures c.is_broken-3.ensures c.if-is_broken-3.true))
+pub returns-in_err-rule_12 : goal.returns-in_err-rule_12
+returns-in_err-rule_12 c = goes_on _ c.in_ok-rule_8.ensures (goes_on _ c.in_ok-rule_9.ensures (stops _ c.in_err-rule_12.ensures c.from_residual-in_err-rule_12.ensures.1))
 
 pub reach_verdict-requires : goal.reach_verdict-requires
 reach_verdict-requires c = record {
   formed = c.requires.formed;
   rule_5 = c.requires.starts;
-  rule_8 = rule_at_passed 8 c.rule_8-activities.ensures c.is_broken.ensures c.if-is_broken.false;
-  rule_9 = rule_at_passed 9 c.rule_9-awaits.ensures c.is_broken-2.ensures c.if-is_broken-2.false;
-  rule_12 = rule_at_passed 12 c.rule_12-limits.ensures c.is_broken-3.ensures c.if-is_broken-3.false;
+  rule_8 = rule_at_passed 8 c.in_ok-rule_8.ensures;
+  rule_9 = rule_at_passed 9 c.in_ok-rule_9.ensures;
+  rule_12 = rule_at_passed 12 c.in_ok-rule_12.ensures;
 }
 
 pub returns : goal.returns
-returns c = goes_on _ c.rule_8-activities.ensures c.is_broken.ensures c.if-is_broken.false (goes_on _ c.rule_9-awaits.ensures c.is_broken-2.ensures c.if-is_broken-2.false (goes_on _ c.rule_12-limits.ensures c.is_broken-3.ensures c.if-is_broken-3.false c.reach_verdict.ensures))
+returns c = goes_on _ c.in_ok-rule_8.ensures (goes_on _ c.in_ok-rule_9.ensures (goes_on _ c.in_ok-rule_12.ensures c.reach_verdict.ensures))

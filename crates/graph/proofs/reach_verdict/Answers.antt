@@ -1,8 +1,8 @@
 use Rattle.graph.specs.Chain.{stops, goes_on, ends}
 use Rattle.graph.proofs.reach_verdict.Goals as goal
 
-pub returns-then-is_broken : goal.returns-then-is_broken
-returns-then-is_broken c = stops _ c.rule_14-unreached.ensures c.is_broken.ensures c.if-is_broken.true
+pub returns-in_err-rule_14 : goal.returns-in_err-rule_14
+returns-in_err-rule_14 c = stops _ c.in_err-rule_14.ensures c.from_residual.ensures.1
 
 pub returns : goal.returns
-returns c = goes_on _ c.rule_14-unreached.ensures c.is_broken.ensures c.if-is_broken.false (ends c.rule_15.ensures)
+returns c = goes_on _ c.in_ok-rule_14.ensures (ends c.rule_15.ensures)

@@ -1,10 +1,10 @@
 use Rattle.host.specs.Host.{verdict_numbers}
 use Rattle.host.proofs.verdict_numbers.Goals as goal
 
-pub returns-in-Fine : goal.returns-in-Fine
+pub returns-in-Ok : goal.returns-in-Ok
 unfolding verdict_numbers
-returns-in-Fine c = simp c.in-Fine.is
+returns-in-Ok c = simp c.in-Ok.is
 
-pub returns-in-Broken : goal.returns-in-Broken
+pub returns-in-Err : goal.returns-in-Err
 unfolding verdict_numbers
-returns-in-Broken c = simp c.in-Broken.is
+returns-in-Err c = simp c.in-Err.is

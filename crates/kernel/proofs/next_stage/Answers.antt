@@ -1,21 +1,23 @@
-use Rattle.graph.specs.Chain.{stops, goes_on, rule_stops, rule_goes_on, rule_ends}
+use mathlib.Core.Path.{◌∙◌, ap}
+use Rattle.graph.specs.Chain.{stops, goes_on, ends}
+use Rattle.graph.specs.Verdict.{rule}
 use Rattle.kernel.specs.Code.{inconsistent, out_of_sequence}
 use Rattle.kernel.specs.Call.{next_stage}
 use Rattle.kernel.proofs.next_stage.Goals as goal
 
-pub returns-then-is_broken : goal.returns-then-is_broken
+pub returns-in_err-rule : goal.returns-in_err-rule
 unfolding next_stage
-returns-then-is_broken c = stops _ c.rule-other.ensures c.is_broken.ensures c.if-is_broken.true
+returns-in_err-rule c = stops _ c.in_err-rule.ensures c.from_residual.ensures.1
 
-pub returns-then-is_broken-2 : goal.returns-then-is_broken-2
+pub returns-in_err-rule-2 : goal.returns-in_err-rule-2
 unfolding next_stage
-returns-then-is_broken-2 c =
-    goes_on _ c.rule-other.ensures c.is_broken.ensures c.if-is_broken.false
-    (rule_stops inconsistent _ c.rule-check.ensures c.consistent.ensures c.is_broken-2.ensures c.if-is_broken-2.true)
+returns-in_err-rule-2 c =
+    goes_on _ c.in_ok-rule.ensures
+    (stops _ (c.in_err-rule-2.ensures ∙ ap (rule inconsistent) c.consistent.ensures) c.from_residual-in_err-rule-2.ensures.1)
 
 pub returns : goal.returns
 unfolding next_stage
 returns c =
-    goes_on _ c.rule-other.ensures c.is_broken.ensures c.if-is_broken.false
-    (rule_goes_on inconsistent _ c.rule-check.ensures c.consistent.ensures c.is_broken-2.ensures c.if-is_broken-2.false
-    (rule_ends out_of_sequence c.rule.ensures c.is_next.ensures))
+    goes_on _ c.in_ok-rule.ensures
+    (goes_on _ (c.in_ok-rule-2.ensures ∙ ap (rule inconsistent) c.consistent.ensures)
+    (ends (c.rule-3.ensures ∙ ap (rule out_of_sequence) c.is_next.ensures)))

@@ -6,10 +6,10 @@ pub returns-then-x-eq0 : goal.returns-then-x-eq0
 unfolding when◌then◌else◌
 returns-then-x-eq0 c = simp (eq-eqb _ _ c.if-x-eq0.true)
 
-pub returns-in-At : goal.returns-in-At
+pub returns-in-Some : goal.returns-in-Some
 unfolding when◌then◌else◌
-returns-in-At c = simp (ne_eqb _ _ c.if-x-eq0.false, ← c.find_limit.ensures, c.in-At.is)
+returns-in-Some c = simp (ne_eqb _ _ c.if-x-eq0.false, ← c.find_limit.ensures, c.in-Some.is)
 
-pub returns-in-Nothing : goal.returns-in-Nothing
+pub returns-in-None : goal.returns-in-None
 unfolding when◌then◌else◌
-returns-in-Nothing c = simp (ne_eqb _ _ c.if-x-eq0.false, ← c.find_limit.ensures, c.in-Nothing.is)
+returns-in-None c = simp (ne_eqb _ _ c.if-x-eq0.false, ← c.find_limit.ensures, c.in-None.is)

@@ -6,6 +6,6 @@ pub returns-then-outcome-eq-NONE : goal.returns-then-outcome-eq-NONE
 unfolding when◌then◌else◌
 returns-then-outcome-eq-NONE c = simp (eq-eqb _ _ c.if-outcome-eq-NONE.true)
 
-pub returns : goal.returns
+pub returns-else-outcome-eq-NONE : goal.returns-else-outcome-eq-NONE
 unfolding when◌then◌else◌
-returns c = simp (ne_eqb _ _ c.if-outcome-eq-NONE.false)
+returns-else-outcome-eq-NONE c = simp (ne_eqb _ _ c.if-outcome-eq-NONE.false)

@@ -1,10 +1,10 @@
 use Rattle.model.specs.RouteLaws.{next_of}
 use Rattle.model.proofs.route.next_of.Goals as goal
 
-pub returns-in-At : goal.returns-in-At
+pub returns-in-Some : goal.returns-in-Some
 unfolding next_of
-returns-in-At c = simp c.in-At.is
+returns-in-Some c = simp c.in-Some.is
 
-pub returns-in-Nothing : goal.returns-in-Nothing
+pub returns-in-None : goal.returns-in-None
 unfolding next_of
-returns-in-Nothing c = simp c.in-Nothing.is
+returns-in-None c = simp c.in-None.is
