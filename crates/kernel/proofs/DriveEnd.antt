@@ -22,7 +22,6 @@ use Rattle.kernel.specs.declared.drive.Round.{Round}
 use Rattle.model.specs.declared.moves.Next.{Next}
 use Rattle.model.specs.declared.moves.Next.TheVariants.{Rest, Enter, Take, Consume, Wants, Refuse}
 use Rattle.model.specs.Store.{listed as stored_as, leaves_over}
-use Rattle.model.specs.Step.{no_note, no_ending}
 use Rattle.kernel.specs.Drive.{Machine, operations_of, consume_by, advance_by, advance}
 use Rattle.kernel.specs.Bounds.{none_more, Bounds}
 use Rattle.kernel.specs.Call.{orders, closed, finish_by, finish}

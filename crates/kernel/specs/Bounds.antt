@@ -1,24 +1,22 @@
 -- What a call may still count and list, on every sheet and every record of at most 64 stored signals: 131 moves, 130 microsteps, 65 notes and 65 endings are enough.
-use Rattle.std.specs.Prelude.{◌≡◌, Option, Some, None, false, List, [], ◌∷◌, ℕ, suc, ◌+◌, ◌*◌, ◌≤◌, eqb, ltb}
+use Rattle.std.specs.Prelude.{◌≡◌, Option, Some, None, false, List, [], ◌∷◌, ℕ, suc, ◌+◌, ◌*◌, ◌≤◌, ltb}
 use Rattle.std.proofs.Math.Path.{refl, ap, subst}
 use Rattle.std.proofs.Common.{sym, length-append}
 use native.Mathlib.Omega.{arith}
 use Rattle.std.proofs.Math.ListN.{length}
-use Rattle.laws.specs.Bool.{when◌then◌else◌, split, either}
+use Rattle.laws.specs.Bool.{either}
 use Rattle.workflow.specs.View.{Workflow}
 use Rattle.workflow.specs.Lookup.{node_of}
 use Rattle.model.specs.declared.State.{State}
 use Rattle.model.specs.declared.event.Event.{Event}
 use Rattle.model.specs.declared.event.Mappings.{Mappings}
-use Rattle.model.specs.declared.answer.Note.{Note}
-use Rattle.model.specs.declared.answer.Ending.{Ending}
 use Rattle.model.specs.declared.moves.Next.{Next}
 use Rattle.model.specs.declared.moves.Next.TheVariants.{Rest, Enter, Take, Consume, Wants, Refuse}
 use Rattle.model.specs.declared.moves.Move.{Move}
 use Rattle.model.specs.Record.{seen}
 use Rattle.model.specs.Store.{first_signal, signal_at, removed}
 use Rattle.model.specs.StoreLaws.{first_inside}
-use Rattle.model.specs.Step.{no_note, no_ending, arrival, enter, take}
+use Rattle.model.specs.Step.{arrival, enter, take}
 use Rattle.machine.specs.Events.{apply}
 use Rattle.kernel.specs.Cost.{cost, takes, takes_small, in_hand, hand_empty, entered, costs_take, reacted, removed_count}
 use Rattle.kernel.specs.Drive.{Machine, added, moved, counting, consume_by, advance_by, advance, moves_on, started}

@@ -3,7 +3,7 @@ use Rattle.std.specs.Option.{is_some}
 use mir.Val.{bool_byte}
 use Rattle.std.specs.Prelude.{◌≡◌, Option, Some, None, Bool, true, false, ltb, eqb, take, set, get_or, replicate}
 use Rattle.std.proofs.Math.Path.{refl, sym, ap, subst}
-use Rattle.std.proofs.Common.{◌∙◌, length-take-le, eq-eqb, ne_eqb, eqb-true, lt-ltb, le-ltb, ltb-true, ltb-false}
+use Rattle.std.proofs.Common.{◌∙◌, eqb-true, lt-ltb, le-ltb, ltb-true, ltb-false}
 use Rattle.std.proofs.lemmas.Bool.{false≢true, eqb-false}
 use mathlib.Core.List.{List, [], ◌∷◌, ◌++◌}
 use Prim.Native.Nat.{ℕ, zero, suc, ◌+◌, ◌-◌, ◌*◌, ◌≤◌, ◌<◌}
@@ -13,7 +13,7 @@ use Rattle.laws.specs.Bool.{when◌then◌else◌, if_true, if_false, split, eit
 use Rattle.laws.specs.Settle.{settle, Settling, settle_rests, settled, settle_next}
 use Rattle.laws.specs.First.{first}
 use Rattle.laws.specs.Listing.{padded, Listing, listing_none, listing_more, listing_splice, take_padded}
-use Rattle.laws.specs.Splice.{splice, splice_one, Written, write_start, write_next, write_end, flat_ones}
+use Rattle.laws.specs.Splice.{splice}
 use Rattle.workflow.specs.View.{Workflow}
 use Rattle.workflow.specs.Lookup.{node_of}
 use Rattle.model.specs.declared.State.{State}
@@ -35,7 +35,7 @@ use Rattle.model.specs.declared.moves.Move.{Move}
 use Rattle.workflow.specs.Code.{none}
 use Rattle.model.specs.Code.{store, invariant}
 use Rattle.model.specs.Store.{listed as stored_as, stored, first_signal, signal_at, removed, leaves_over, left_over, emptied}
-use Rattle.model.specs.StoreLaws.{IsSlotted, at_taken, stored_length, length_left}
+use Rattle.model.specs.StoreLaws.{IsSlotted, stored_length, length_left}
 use Rattle.model.specs.Step.{still, no_note, no_ending, no_mapping, arrival, enter, follow_to, route_limited, route, take_by, take as take_signal}
 use Rattle.model.specs.EnterLaws.{NoNode, entering}
 use Rattle.model.specs.RouteLaws.{consumed, taking}
@@ -202,27 +202,6 @@ module _ {A : Type 0} {d : A} {array : List A} {n : ℕ} {xs : List A} {o : Opti
   added_none h e g = rw (h, e, g) l.are
 
 -- THE CLOSE: what is left over is listed behind the endings.
--- Of the first n of some endings i stand behind the k that were listed.
-module _ (more : List Ending) (n : ℕ) where
-  abbrev pub Behind : (before : List Ending) → (k i : ℕ) → (now : List Ending) → Type 0
-  Behind before k i now = Written (λ x. x ∷ []) 1 (take n more) k i before now
-
-  pub behind_none : {before : List Ending} {k : ℕ} → Behind before k 0 before
-  behind_none = write_start (λ _. refl)
-
-  module _ {before now : List Ending} {k i : ℕ} (b : Behind before k i now) (within : n ≤ length more) where
-    first_n : length (take n more) ≡ n
-    first_n = length-take-le n more within
-
-    pub behind_more : length before ≡ 65 → k + n ≤ 65 → i < n → Behind before k (i + 1) (set now (k + i) (get_or more i no_ending))
-    behind_more z h g =
-        let e = first_n in
-        write_next b no_ending {k = k + i} (omega arith) (omega arith) (omega arith)
-        (splice_one now (k + i) (get_or more i no_ending) (omega (arith, b.long)) ∙ rw (at_taken no_ending more i n g))
-
-    pub behind_all : n ≤ i → now ≡ splice before k (take n more)
-    behind_all h = write_end b (omega (arith, first_n)) ∙ rw (flat_ones (take n more))
-
 -- All that is left over is listed.
 pub all_left : (s : State) → IsSlotted s → {left : List Ending} → left ≡ padded store no_ending (left_over (stored s)) → take s.signal_count left ≡ left_over (stored s)
 all_left s z e = ap (take s.signal_count) e ∙ take_padded no_ending store s.signal_count (left_over (stored s)) (length_left (stored s) ∙ stored_length s z)

@@ -185,12 +185,9 @@ fn list_behind(
     requires count_bound_2 { count ≤ 64 }
     ensures { result ≡ splice endings ending_count (take count more) }
 {
-    let mut i: u32 = 0;
-    while i < count {
-        let ending = more[i as usize];
-        endings[(ending_count + i) as usize] = ending;
-        i += 1;
-    }
+    let from = ending_count as usize;
+    let n = count as usize;
+    endings[from..from + n].copy_from_slice(&more[..n]);
     endings
 }
 

@@ -10,9 +10,15 @@ pub enum Reaction {
     // the arrival is stored
     Store,
     // only a note, and an ending where a signal ends
-    Say { note: Note, ending: Option<Ending> },
+    Say {
+        note: Note,
+        ending: Option<Ending>,
+    },
     // the invocation is over, and its node routes
-    Route { outcome: u32, output: Output },
+    Route {
+        outcome: u32,
+        output: Output,
+    },
     // the next attempt is ordered, after a delay
     Retry(u64),
     // the run waits for a person, its invocation in that phase with the error that it keeps

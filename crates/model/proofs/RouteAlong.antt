@@ -18,7 +18,7 @@ use Rattle.model.specs.declared.answer.Ending.{Ending}
 use Rattle.model.specs.declared.route.Routing.{Routing}
 use Rattle.model.specs.declared.moves.Next.{Next}
 use Rattle.model.specs.Record.{no_streak, streak_of, with_streak, with_result}
-use Rattle.model.specs.Step.{streak_count, no_ending, noting, follow_to, route_limited, route}
+use Rattle.model.specs.Step.{streak_count, noting, follow_to, route_limited, route}
 use Rattle.model.specs.RouteLaws.{exhausts, goes_on, routing_of, next_of, along, follow_on, stored_by, Makes, ends}
 
 module _ (f : Workflow) (s : State) (n o : ℕ) where

@@ -1,5 +1,5 @@
 -- Entering a node: what an entry makes of a record, and each branch of the rules as the code comes to it.
-use Rattle.std.specs.Prelude.{◌≡◌, Option, Some, None, Result, Ok, Err, Bool, true, false, [], ◌∷◌, ℕ, ◌+◌, ◌≤◌, ◌<◌, length}
+use Rattle.std.specs.Prelude.{◌≡◌, Some, None, Result, Ok, Err, Bool, true, false, [], ◌∷◌, ℕ, ◌+◌, ◌≤◌, ◌<◌, length}
 use Rattle.std.proofs.Math.Path.{refl, sym, ap}
 use Rattle.std.proofs.Common.{◌∙◌, arith, get_or-set_same}
 use Rattle.std.proofs.lemmas.Bool.{false≢true}
@@ -12,7 +12,6 @@ use Rattle.workflow.specs.Layout.{node_room}
 use Rattle.workflow.specs.View.{Workflow}
 use Rattle.workflow.specs.Lookup.{node_slots}
 use Rattle.model.specs.Code.{field_params, visits_exceeded, activations_exceeded, invariant}
-use Rattle.model.specs.declared.Output.{Output}
 use Rattle.model.specs.declared.Visits.{Visits}
 use Rattle.model.specs.declared.State.{State}
 use Rattle.model.specs.declared.event.Mappings.{Mappings}

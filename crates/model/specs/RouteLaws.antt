@@ -1,17 +1,13 @@
 -- Between the step rules and their code: routing worked out from rows and numbers first, and a retry's tests without a sum.
-use Rattle.std.specs.Prelude.{◌≡◌, Option, Some, None, Bool, length, get_or, set, ltb, eqb}
+use Rattle.std.specs.Prelude.{◌≡◌, Option, Some, None, Bool, ltb}
 use Rattle.std.proofs.Math.Path.{refl, sym, ap}
 use Rattle.std.proofs.Common.{◌∙◌}
 use Rattle.std.proofs.Math.Bool.{true, false}
-use Rattle.std.proofs.lemmas.Bool.{false≢true}
 use Prim.Native.Nat.{ℕ, ◌+◌, ◌-◌, ◌≤◌, ◌<◌, min}
 use native.Mathlib.Omega.{arith}
 use borrow.Author.Tests.{ltb-true, ltb-false, lt-ltb, le-ltb, le-leb}
 use Rattle.std.proofs.Math.Dec.{leb}
-use Rattle.laws.specs.Bool.{when◌then◌else◌, if_true, split}
-use Rattle.laws.specs.First.{first}
-use Rattle.laws.specs.Rows.{span, take_span}
-use Rattle.laws.specs.Shift.{without, Shift, shift_done}
+use Rattle.laws.specs.Bool.{when◌then◌else◌, split}
 use Rattle.workflow.specs.Code.{exhausted}
 use Rattle.model.specs.Code.{store, largest, running, scheduled, invariant, no_retry, largest_attempt, note_retry, note_exhausted, note_unrouted, end_routed, end_unrouted}
 use Rattle.workflow.specs.View.{Workflow}
@@ -32,10 +28,10 @@ use Rattle.model.specs.declared.route.Routed.{Routed}
 use Rattle.model.specs.declared.moves.Next.{Next}
 use Rattle.model.specs.declared.moves.Next.TheVariants.{Rest, Enter, Take, Consume, Wants, Refuse}
 use Rattle.model.specs.declared.moves.Move.{Move}
-use Rattle.model.specs.Record.{no_signal, no_invocation, placed, set_signals, no_streak, no_node_result, streak_of, with_streak, with_result}
+use Rattle.model.specs.Record.{placed, no_streak, streak_of, with_streak, with_result}
 use Rattle.model.specs.StoreLaws.{found_at, left_at}
-use Rattle.model.specs.Store.{listed, first_signal, signal_at, removed}
-use Rattle.model.specs.Step.{planned, phased, retry, signal_outcome, streak_count, no_note, no_ending, still, ending, follow_to, route, signal_route, take_by, take}
+use Rattle.model.specs.Store.{first_signal, signal_at, removed}
+use Rattle.model.specs.Step.{planned, phased, retry, signal_outcome, streak_count, still, follow_to, route, signal_route, take_by, take}
 
 -- The outcome that is followed, the next streak and the note.
 abbrev pub exhausts : (node outcome limit : ℕ) → Routing

@@ -8,7 +8,7 @@ use Rattle.std.specs.Prelude.{◌≡◌, Option, Some, None, Bool, get_or, set, 
 use Rattle.std.proofs.Math.Path.{refl, sym, ap}
 use Rattle.std.proofs.Common.{◌∙◌, length-append, length-set, length-take, length-drop, take_all, take-suc-set, drop-set-lt, drop-cons, lt-ltb, le-leb, leb-true, ltb-true, ltb-false}
 use Rattle.std.proofs.Math.Bool.{true, false}
-use Rattle.std.proofs.lemmas.Bool.{false≢true, lt-leb}
+use Rattle.std.proofs.lemmas.Bool.{lt-leb}
 use mathlib.Core.List.{List, [], ◌∷◌, ◌++◌, map-append}
 use Prim.Native.Nat.{ℕ, zero, suc, ◌+◌, ◌-◌, ◌≤◌, ◌<◌, min}
 use Rattle.std.proofs.Math.Dec.{leb}
@@ -16,11 +16,9 @@ use native.Mathlib.Omega.{arith}
 use Rattle.std.proofs.Math.Numerals.{add-one}
 use Rattle.std.proofs.lemmas.List.{length-map}
 use Rattle.std.proofs.Math.Seq.{take-suc}
-use Rattle.std.proofs.Math.Dec.{leb-suc-zero, leb-suc-suc}
-use Rattle.laws.specs.Bool.{when◌then◌else◌, ◌and◌, if_true, and_true, and_left, both, join, split}
-use Rattle.laws.specs.First.{first, Seek}
-use Rattle.laws.specs.Rows.{rows, span}
-use Rattle.laws.specs.Every.{every, below, every_then, every_append, every_remove}
+use Rattle.laws.specs.Bool.{when◌then◌else◌, ◌and◌, if_true, both, join, split}
+use Rattle.laws.specs.First.{first}
+use Rattle.laws.specs.Every.{every, every_append, every_remove}
 use Rattle.laws.specs.Listing.{padded, Listing, listing_none, listing_more}
 use Rattle.laws.specs.Shift.{remove_at, without, take_without, drop_without, length_without}
 use Rattle.model.specs.Code.{store, largest, end_left_over}

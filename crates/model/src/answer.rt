@@ -52,8 +52,15 @@ pub enum Answer {
         order: Option<Order>,
         microsteps: u32,
     },
-    Wants { node: u32, field: u32, from: u32 },
-    Refused { number: u32, item: u32 },
+    Wants {
+        node: u32,
+        field: u32,
+        from: u32,
+    },
+    Refused {
+        number: u32,
+        item: u32,
+    },
 }
 
 // The numbers of an order's params.

@@ -57,7 +57,10 @@ enum Standing {
         invocation: InvocationState,
     },
     // at its end
-    Finished { status: u32, output: Output },
+    Finished {
+        status: u32,
+        output: Output,
+    },
 }
 
 // What entering a node makes of a run: what is stored, and what the move says.
@@ -132,13 +135,7 @@ struct Entering {
 
 impl Entering {
     // The first attempt of an activity is ordered.
-    fn scheduling(
-        self,
-        w: &[u32; NUMBERS],
-        input: u32,
-        params: Option<u32>,
-        read: u32,
-    ) -> Entry
+    fn scheduling(self, w: &[u32; NUMBERS], input: u32, params: Option<u32>, read: u32) -> Entry
         ensures result_value { (s : State) → Shows s self.node self.visit self.last_accepted_at → made s result ≡ reading read (schedule (workflow w.now) s self.node input params) }
         ensures entered_value { result.entered ≡ true }
     {

@@ -40,22 +40,12 @@ fn attempt_after(
         return None;
     }
     let attempt = old.attempt.checked_add(1)?;
-    let InvocationState {
-        node,
-        visit,
-        action,
-        input,
-        ..
-    } = old;
     Some(Attempt {
         invocation: InvocationState {
             phase: code::SCHEDULED,
-            node,
-            visit,
-            action,
             attempt,
-            input,
             error: None,
+            ..old
         },
         note: Note {
             code: code::NOTE_RETRY,
@@ -66,8 +56,8 @@ fn attempt_after(
         },
         order: Order::Retry(RetryActivity {
             not_before: planned(w, last_accepted_at, delay),
-            node,
-            visit,
+            node: old.node,
+            visit: old.visit,
             attempt,
         }),
     })

@@ -10,7 +10,8 @@ ghost use Rattle.snapshot.specs.CheckLaws.{node_fits, terminal_by, error_fits, i
 use model::event::{Event, Mappings};
 use model::store::leaves_over;
 use model::{
-    ErrorInfo, InvocationState, NodeResult, Output, Position, RunResult, State, Streak, Visits, code,
+    ErrorInfo, InvocationState, NodeResult, Output, Position, RunResult, State, Streak, Visits,
+    code,
 };
 use workflow::layout::{NODES, NUMBERS};
 use workflow::{Node, code as sheet};

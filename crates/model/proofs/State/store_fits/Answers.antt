@@ -1,6 +1,5 @@
-use native.Mathlib.Omega.{arith}
 use mathlib.Core.Path.{◌≡◌, sym, ◌∙◌}
-use lib.ListN.{length, drop}
+use lib.ListN.{length}
 use Rattle.std.proofs.Common.{rules}
 use Rattle.laws.specs.Arrays.{length_field}
 use Rattle.model.specs.StoreLaws.{crowded, numbered, unnumbered}

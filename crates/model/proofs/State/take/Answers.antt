@@ -1,4 +1,4 @@
-use mathlib.Core.Path.{◌≡◌, sym, ◌∙◌, ap}
+use mathlib.Core.Path.{sym, ◌∙◌, ap}
 use Rattle.workflow.specs.View.{workflow}
 use Rattle.workflow.specs.declared.Node.{Node}
 use Rattle.model.specs.declared.Position.{Position}

@@ -1,4 +1,3 @@
-use mathlib.Core.Path.{◌∙◌}
 use Rattle.model.specs.Answers.{order_numbers}
 use Rattle.model.proofs.answer.order_numbers.Goals as goal
 

@@ -1,4 +1,4 @@
-use mathlib.Core.Path.{sym, ◌∙◌}
+use mathlib.Core.Path.{◌∙◌}
 use borrow.Author.Tests.{lt-ltb}
 use Rattle.model.specs.RouteLaws.{above, above_all}
 use Rattle.model.proofs.retry.is_late.Goals as goal

@@ -1,4 +1,3 @@
-use mathlib.Core.Path.{◌∙◌}
 use Rattle.model.specs.RouteLaws.{strays}
 use Rattle.model.proofs.RouteAlong.{routes}
 use Rattle.model.proofs.route.routed_from.Goals as goal

@@ -1,4 +1,4 @@
-use mathlib.Core.Path.{refl, ◌∙◌}
+use mathlib.Core.Path.{refl}
 use Rattle.model.specs.RouteLaws.{taken_by, found_taken, unstored_makes, passed_on}
 use Rattle.model.proofs.route.taken_by.Goals as goal
 

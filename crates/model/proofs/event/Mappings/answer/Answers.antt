@@ -1,7 +1,7 @@
 use native.Mathlib.Omega.{arith}
 use lib.ListN.{get_or}
 use mathlib.Core.Path.{◌≡◌}
-use borrow.Author.Tests.{eq-eqb, le-ltb, lt-ltb, ne_eqb}
+use borrow.Author.Tests.{le-ltb, lt-ltb, ne_eqb}
 use Rattle.model.specs.Step.{no_mapping, answer}
 use Rattle.laws.specs.Bool.{when◌then◌else◌}
 use Rattle.laws.specs.Arrays.{past_getD, length_field}
