@@ -1,7 +1,6 @@
 -- Counting: how often a sequence number is in the store or among the endings, and how many visits there are.
-use Rattle.std.specs.Prelude.{◌≡◌, Option, Some, None, List, [], ◌∷◌, ◌++◌, ℕ, zero, suc, ◌+◌, ◌≤◌, ◌<◌, get_or, set, length, eqb}
+use Rattle.std.specs.Prelude.{◌≡◌, Option, Some, None, List, [], ◌∷◌, ◌++◌, ℕ, zero, suc, ◌+◌, ◌≤◌, ◌<◌, get_or, set, length}
 use Rattle.std.proofs.Common.{arith}
-use Rattle.laws.specs.Bool.{when◌then◌else◌, if_false}
 use Rattle.laws.specs.Shift.{remove_at}
 use Rattle.laws.specs.All.{all_set}
 use Rattle.workflow.specs.View.{Workflow}

@@ -5,8 +5,8 @@ use Rattle.std.proofs.Common.{sym, ◌∙◌, inl, arith}
 use Rattle.std.proofs.Math.Bool.{true}
 use Rattle.std.proofs.Math.Logic.{inr}
 use Prim.Native.Nat.{ℕ, zero, suc, ◌+◌, ◌≤◌, ◌<◌}
-use borrow.Author.Tests.{ltb-true, eqb-true}
-use Rattle.laws.specs.Bool.{when◌then◌else◌, ◌and◌, split, both, join, either}
+use borrow.Author.Tests.{ltb-true}
+use Rattle.laws.specs.Bool.{when◌then◌else◌, split, both, join, either}
 use Rattle.laws.specs.Every.{every}
 use Rattle.laws.specs.Settle.{settle, settle_rests}
 use Rattle.workflow.specs.View.{Workflow}
@@ -24,7 +24,7 @@ use Rattle.model.specs.Code.{activity_result, no_retry, unencodable}
 use Rattle.model.specs.Record.{is_terminal, seen}
 use Rattle.model.specs.Store.{first_signal, signal_at, removed}
 use Rattle.model.specs.StoreLaws.{first_inside}
-use Rattle.model.specs.Step.{no_note, still, arrival}
+use Rattle.model.specs.Step.{still, arrival}
 use Rattle.machine.specs.Events.{apply}
 use Rattle.kernel.specs.Code.{microsteps_exceeded}
 use Rattle.kernel.specs.Drive.{Machine, added, moved, counting, consume_by, advance_by, advance, moves_on, is_moving, opened, started, driven}
