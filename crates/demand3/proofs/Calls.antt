@@ -4,7 +4,7 @@ use Rattle.std.proofs.Common.{sym, ap, subst}
 use Rattle.laws.specs.Listing.{padded}
 use Rattle.workflow.specs.View.{Workflow}
 use Rattle.kernel.specs.declared.Call.{Call}
-use Rattle.kernel.specs.Call.{Answer, next, wants, refused, given_record, transition}
+use Rattle.kernel.specs.Call.{Answer, next, wants, refused, transition}
 use Rattle.kernel.specs.Decision.{decision_of}
 use Rattle.demand3.specs.Demand3.{Entry, next_entry, history, Demand3}
 use Rattle.demand3.proofs.Holds.{holds}
@@ -32,7 +32,7 @@ unfolding Ran calls history
 is_history f [] r = refl
 is_history f (x ∷ h) r =
     let g = is_history f h r.1 in
-    let a : entry x ≡ next_entry f (map entry h) x.call = rw (r.0.returned_is, read_back (transition f (given_record x.has_record x.state) x.call)) (ap (λ w. record { call = x.call; given = w; said = transition f w x.call }) r.0.given_is) in
+    let a : entry x ≡ next_entry f (map entry h) x.call = rw (r.0.returned_is, read_back (transition f x.given x.call)) (ap (λ w. record { call = x.call; given = w; said = transition f w x.call }) r.0.given_is) in
     rw (history_more f [] (calls h) x.call, sym g) (ap (λ (e : Entry). e ∷ map entry h) a)
 
 pub code_holds : (f : Workflow) (h : List Made) → Ran f h → Demand3 f (map entry h)

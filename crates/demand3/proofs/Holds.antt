@@ -1,6 +1,6 @@
 -- The proof of demand 3.
 use Rattle.graph.specs.Verdict.{Verdict}
-use Rattle.std.specs.Prelude.{true, ◌≡◌, refl, List, [], ◌∷◌, ◌++◌, ℕ, zero, suc, ◌+◌, ◌≤◌, Ok, Err}
+use Rattle.std.specs.Prelude.{true, ◌≡◌, refl, List, [], ◌∷◌, ◌++◌, ℕ, zero, suc, ◌+◌, ◌≤◌, Ok, Err, Some, None}
 use Rattle.std.proofs.Common.{sym, ◌∙◌, ap, arith}
 use Rattle.laws.specs.Bool.{either}
 use Rattle.laws.specs.All.{All, all_map}
@@ -14,7 +14,7 @@ use Rattle.model.specs.Record.{is_terminal, fresh}
 use Rattle.model.specs.Store.{listed, stored}
 use Rattle.kernel.specs.Drive.{Machine, driven}
 use Rattle.kernel.specs.declared.Call.{Call}
-use Rattle.kernel.specs.Call.{Answer, next, wants, refused, Last, no_record, last, admission, given, finish_by, transition_by, transition}
+use Rattle.kernel.specs.Call.{Answer, next, wants, refused, Last, admission, given, finish_by, transition_by, transition}
 use Rattle.demand3.specs.Words.{times, plain}
 use Rattle.demand3.specs.Demand3.{Entry, standing_after, standing, next_entry, history, Done, done_by, accepted, signals, in_store, Fate, no_signal, still_stored, has_ended, counts, Demand3, endings, OrderedBefore, applied_were_ordered, all_ended, demand_3}
 use Rattle.demand3.proofs.Driver.{Keeps, kept_driven, driven_frozen, driven_hears}
@@ -25,16 +25,16 @@ use Rattle.demand3.proofs.Single.{admitted, Begins, begins, every_call}
 
 -- After the accepted calls ds: the record that stands, or any fresh one.
 abbrev Inv : (f : Workflow) → List Done → Last → Type 0
-Inv f ds no_record = (x : ℕ) → History f ds (fresh x)
-Inv f ds (last s) = History f ds s
+Inv f ds None = (x : ℕ) → History f ds (fresh x)
+Inv f ds (Some s) = History f ds s
 
 sized_last : (f : Workflow) (ds : List Done) (r : Last) → Inv f ds r → SizedLast r
-sized_last f ds no_record i = tt
-sized_last f ds (last s) i = i.sized
+sized_last f ds None i = tt
+sized_last f ds (Some s) i = i.sized
 
 given_history : (f : Workflow) (ds : List Done) (r : Last) (c : Call) → Inv f ds r → History f ds (given r c)
-given_history f ds no_record c i = i c.event.input
-given_history f ds (last s) c i = i
+given_history f ds None c i = i c.event.input
+given_history f ds (Some s) c i = i
 
 -- AN ACCEPTED ANSWER, and what is known of it.
 abbrev Told : Workflow → Call → State → Answer → Type 0
@@ -147,8 +147,8 @@ told_by f h s i g z =
 
 whole : (f : Workflow) (h : List Entry) (r : Last) → standing h ≡ r → Inv f (accepted h) r → Kept f h → Demand3 f h
 unfolding times listed
-whole f h no_record e i g = told_by f h (fresh 0) (i 0) g (λ q. ap (in_store q) e)
-whole f h (last s) e i g = told_by f h s i g (λ q. ap (in_store q) e)
+whole f h None e i g = told_by f h (fresh 0) (i 0) g (λ q. ap (in_store q) e)
+whole f h (Some s) e i g = told_by f h s i g (λ q. ap (in_store q) e)
 
 -- DEMAND 3.
 pub holds : demand_3
@@ -156,16 +156,16 @@ holds f calls = let g = kept f calls [] (at_first f) in whole f (history f [] ca
 
 -- BESIDE IT: what was applied was ordered, every signal of an ended run has ended, and every answer of a list is a proper one.
 were_ordered : (f : Workflow) (ds : List Done) (r : Last) → Inv f ds r → OrderedBefore ds
-were_ordered f ds no_record i = (i 0).applied_ordered
-were_ordered f ds (last s) i = i.applied_ordered
+were_ordered f ds None i = (i 0).applied_ordered
+were_ordered f ds (Some s) i = i.applied_ordered
 
 pub all_ordered : applied_were_ordered
 all_ordered f calls = let h = history f [] calls in were_ordered f (accepted h) (standing h) (kept f calls [] (at_first f)).inv
 
-ended_all : (f : Workflow) (ds : List Done) (r : Last) (s : State) → r ≡ last s → is_terminal s.status ≡ true → Inv f ds r → (q : ℕ) → endings q ds ≡ signals q ds
+ended_all : (f : Workflow) (ds : List Done) (r : Last) (s : State) → r ≡ Some s → is_terminal s.status ≡ true → Inv f ds r → (q : ℕ) → endings q ds ≡ signals q ds
 unfolding times
-ended_all f ds no_record s e h i q = let w : ◌≡◌ {A = ℕ} 0 1 = cc in absurd (omega arith)
-ended_all f ds (last t) s e h i q =
+ended_all f ds None s e h i q = let w : ◌≡◌ {A = ℕ} 0 1 = cc in absurd (omega arith)
+ended_all f ds (Some t) s e h i q =
     let z : s ≡ t = cc in
     omega (arith, i.conserved q, ap (times q) (ended_empty t i.none_left (rw z at h)))
 

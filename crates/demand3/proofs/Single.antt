@@ -1,5 +1,5 @@
 -- The proof of what holds of every single call (specs, Single).
-use Rattle.std.specs.Prelude.{◌≡◌, refl, false, not, ◌⊎◌, ℕ, ◌+◌, ◌≤◌, ◌<◌, eqb, Ok, Err}
+use Rattle.std.specs.Prelude.{◌≡◌, refl, false, not, ◌⊎◌, ℕ, ◌+◌, ◌≤◌, ◌<◌, eqb, Ok, Err, Some, None}
 use Rattle.std.proofs.Math.Path.{sym, ap}
 use Rattle.std.proofs.Common.{◌∙◌, arith, eqb-true, leb-true, ltb-true}
 use Rattle.std.proofs.Math.Bool.{true}
@@ -29,7 +29,7 @@ use Rattle.machine.specs.Events.{apply}
 use Rattle.kernel.specs.Code.{event_unfit, out_of_sequence, not_started, started_before, inconsistent, microsteps_exceeded, commands_exceeded, operations_exceeded}
 use Rattle.kernel.specs.Drive.{Machine, started, driven}
 use Rattle.kernel.specs.declared.Call.{Call}
-use Rattle.kernel.specs.Call.{refused, Last, no_record, last, is_start, start_stage, next_stage, record_stage, admission, given, finish_by, transition_by, transition}
+use Rattle.kernel.specs.Call.{refused, Last, is_start, start_stage, next_stage, record_stage, admission, given, finish_by, transition_by, transition}
 use Rattle.demand3.specs.Steps.{steps, begun_by, begun}
 use Rattle.demand3.proofs.StepsLaws.{few_steps, counts_steps}
 use Rattle.demand3.proofs.Tidy as Tidy
@@ -54,8 +54,8 @@ admitted f r c e =
 -- A refusal before the step is none of 0 and 26.
 mild_record : (f : Workflow) (c : Call) (r : Last) → Mild (record_stage f c r)
 unfolding start_stage next_stage
-mild_record f c no_record = search (mild_stages, refl) depth 8
-mild_record f c (last s) = search (mild_stages, refl) depth 8
+mild_record f c None = search (mild_stages, refl) depth 8
+mild_record f c (Some s) = search (mild_stages, refl) depth 8
 
 mild_admission : (f : Workflow) (r : Last) (c : Call) → Mild (admission f r c)
 unfolding admission
@@ -104,7 +104,7 @@ pub record Begins (f : Workflow) (s : State) (e : Event) : Type 0 where
 
 pub begins : (f : Workflow) (r : Last) (c : Call) → SizedLast r → Admitted f r c → Begins f (given r c) c.event
 unfolding start_stage next_stage
-begins f no_record c z a =
+begins f None c z a =
     let u = in_time c.event c.mappings a.event in
     let k : is_start c.event.kind ≡ true = rule_holds not_started a.stage (search stage depth 8) in
     let q : eqb c.event.sequence 1 ≡ true = rule_holds out_of_sequence a.stage (search stage depth 8) in
@@ -120,7 +120,7 @@ begins f no_record c z a =
       none_left = none_left_empty running;
       sequence = eqb-true _ _ q;
     }
-begins f (last s) c z a =
+begins f (Some s) c z a =
     let u = in_time c.event c.mappings a.event in
     let n : not (is_start c.event.kind) ≡ true = rule_holds started_before a.stage (search stage depth 8) in
     let k : is_start c.event.kind ≡ false = not-true _ n in

@@ -1,18 +1,16 @@
 -- A list of calls of the code, read as a list of the definition.
-use Rattle.std.specs.Prelude.{◌≡◌, Bool, List, [], ◌∷◌, ◌++◌, map, take}
+use Rattle.std.specs.Prelude.{◌≡◌, List, [], ◌∷◌, ◌++◌, map, take}
 use Rattle.workflow.specs.View.{Workflow}
-use Rattle.model.specs.declared.State.{State}
 use Rattle.model.specs.declared.answer.Answer as code
 use Rattle.kernel.specs.declared.Decision.{Decision}
 use Rattle.kernel.specs.declared.Call.{Call}
-use Rattle.kernel.specs.Call.{Answer, next, wants, refused, given_record, transition}
+use Rattle.kernel.specs.Call.{Answer, next, wants, refused, Last, transition}
 use Rattle.kernel.specs.Decision.{decision_of}
 use Rattle.demand3.specs.Demand3.{Entry, standing}
 
 -- One call of the code: the arguments of `transition` beside the sheet, and what it returned.
 pub record Made : Type 0 where
-  pub has_record : Bool
-  pub state : State
+  pub given : Last
   pub call : Call
   pub returned : Decision
 
@@ -27,12 +25,12 @@ abbrev pub read : Decision → Answer
 read d = read_by d.answer d
 
 abbrev pub entry : Made → Entry
-entry x = record { call = x.call; given = given_record x.has_record x.state; said = read x.returned }
+entry x = record { call = x.call; given = x.given; said = read x.returned }
 
 -- A call after others: it got the record of the last accepted one, or none before the first, and returned what `transition` ensures.
 pub record Follows (f : Workflow) (x : Made) (before : List Made) : Type 0 where
-  pub given_is : given_record x.has_record x.state ≡ standing (map entry before)
-  pub returned_is : x.returned ≡ decision_of (transition f (given_record x.has_record x.state) x.call)
+  pub given_is : x.given ≡ standing (map entry before)
+  pub returned_is : x.returned ≡ decision_of (transition f x.given x.call)
 
 -- The calls so far, newest first.
 unfoldable pub Ran : Workflow → List Made → Type 0

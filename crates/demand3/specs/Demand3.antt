@@ -17,7 +17,7 @@ use Rattle.model.specs.Store.{stored}
 use Rattle.snapshot.specs.Check.{consistent}
 use Rattle.kernel.specs.declared.Call.{Call}
 use Rattle.kernel.specs.Code.{microsteps_exceeded}
-use Rattle.kernel.specs.Call.{Accepted, Answer, next, wants, refused, Last, no_record, last, transition}
+use Rattle.kernel.specs.Call.{Accepted, Answer, next, wants, refused, Last, transition}
 use Rattle.demand3.specs.Words.{is_it, times, Counts, plain}
 use Rattle.demand3.specs.Steps.{begun}
 
@@ -31,12 +31,12 @@ pub record Entry : Type 0 where
 -- A call is accepted if it answers with a next record. Each call gets the record of the last accepted one, and none before the first; a want or a refusal leaves
 -- that record standing.
 abbrev pub standing_after : Answer → Last → Last
-standing_after (next accepted) before = last accepted.state
+standing_after (next accepted) before = Some accepted.state
 standing_after (wants node field from state) before = before
 standing_after (refused number item) before = before
 
 unfoldable pub standing : List Entry → Last
-standing [] = no_record
+standing [] = None
 standing (entry ∷ history) = standing_after entry.said (standing history)
 
 abbrev pub next_entry : Workflow → List Entry → Call → Entry
@@ -96,8 +96,8 @@ signals sequence [] = 0
 signals sequence (done ∷ before) = (when eqb done.event.kind signal_received then is_it sequence done.event.sequence else 0) + signals sequence before
 
 abbrev pub in_store : (sequence : ℕ) → Last → ℕ
-in_store sequence no_record = 0
-in_store sequence (last state) = times sequence (stored state)
+in_store sequence None = 0
+in_store sequence (Some state) = times sequence (stored state)
 
 unfoldable pub ends : (sequence : ℕ) → List Ending → ℕ
 ends sequence [] = 0
@@ -192,5 +192,5 @@ applied_were_ordered = (sheet : Workflow) (calls : List Call) → OrderedBefore 
 -- Every signal of an ended run has ended.
 abbrev pub all_ended : Type 0
 all_ended =
-    (sheet : Workflow) (calls : List Call) (state : State) → standing (history sheet [] calls) ≡ last state → is_terminal state.status ≡ true
+    (sheet : Workflow) (calls : List Call) (state : State) → standing (history sheet [] calls) ≡ Some state → is_terminal state.status ≡ true
     → (sequence : ℕ) → endings sequence (accepted (history sheet [] calls)) ≡ signals sequence (accepted (history sheet [] calls))

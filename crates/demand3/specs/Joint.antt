@@ -1,5 +1,5 @@
 -- Joint A of document 01: its twelve cases, and those of document 02, as one computed table over the definition of the call.
-use Rattle.std.specs.Prelude.{◌≡◌, Bool, true, false, List, [], ◌∷◌, ◌++◌, map, ℕ, ◌+◌, ◌-◌, ◌^◌, get_or, replicate}
+use Rattle.std.specs.Prelude.{◌≡◌, Bool, true, false, List, [], ◌∷◌, ◌++◌, map, ℕ, ◌+◌, ◌-◌, ◌^◌, get_or, replicate, Some, None}
 use Rattle.workflow.specs.View.{Workflow}
 use Rattle.model.specs.declared.BufferedSignal.{BufferedSignal}
 use Rattle.model.specs.declared.event.Event.{Event}
@@ -8,7 +8,7 @@ use Rattle.model.specs.declared.answer.Ending.{Ending}
 use Rattle.model.specs.Record.{no_node_result, streak_of, set_signals}
 use Rattle.model.specs.Answers.{output_numbers, kept_numbers, order_numbers}
 use Rattle.kernel.specs.declared.Call.{Call}
-use Rattle.kernel.specs.Call.{Answer, next, wants, refused, Last, no_record, last, transition}
+use Rattle.kernel.specs.Call.{Answer, next, wants, refused, Last, transition}
 use Rattle.demand3.specs.Demand3.{Entry, standing, history, dated}
 use Rattle.laws.specs.Rows.{rows}
 
@@ -84,8 +84,8 @@ abbrev sixes : List BufferedSignal
 sixes = rows (λ i. record { sequence = 3 + i; event_id = 6; signal = 6; outcome = 255; «data» = 6 }) 0 64
 
 unfoldable pub sixty_four : Last → Last
-sixty_four no_record = no_record
-sixty_four (last s) = last (dated (set_signals s sixes 64) 66 0)
+sixty_four None = None
+sixty_four (Some s) = Some (dated (set_signals s sixes 64) 66 0)
 
 -- THE CASES.
 abbrev to_1 : List Call

@@ -1,13 +1,13 @@
 -- Of every single call, on whatever sheet and record: no refusal is 0, which would be the original's internal failures; the run check takes the next record; an answer
 -- has at most 65 notes and 65 endings; at most 130 microsteps are come to, an accepted answer reports them, and at a limit of 130 or more none is refused with 26.
-use Rattle.std.specs.Prelude.{◌≡◌, ℕ, ◌≤◌}
+use Rattle.std.specs.Prelude.{◌≡◌, ℕ, ◌≤◌, Some, None}
 use Rattle.std.proofs.Math.Bool.{true}
 use Rattle.std.proofs.Math.ListN.{length}
 use Rattle.workflow.specs.View.{Workflow}
 use Rattle.model.specs.Code.{invariant}
 use Rattle.snapshot.specs.Check.{consistent}
 use Rattle.kernel.specs.declared.Call.{Call}
-use Rattle.kernel.specs.Call.{Answer, next, wants, refused, Last, no_record, last}
+use Rattle.kernel.specs.Call.{Answer, next, wants, refused, Last}
 use Rattle.demand3.specs.Demand3.{Reports, Not26}
 use Rattle.demand3.specs.Tidy.{Sized, Tidies}
 
@@ -25,5 +25,5 @@ pub record Single (f : Workflow) (c : Call) (count : ℕ) (x : Answer) : Type 0 
 
 -- The arrays of the record that a call is given have 64 slots each.
 abbrev pub SizedLast : Last → Type 0
-SizedLast no_record = Unit {0}
-SizedLast (last s) = Sized s
+SizedLast None = Unit {0}
+SizedLast (Some s) = Sized s

@@ -1,6 +1,6 @@
 -- What a receipt tells of what was lent.
 use Rattle.std.proofs.Math.Path.{◌≡◌, sym}
-use Rattle.std.specs.Prelude.{refl, Bool, true, false, List, [], ◌∷◌, ℕ, ◌≤◌, ◌<◌, ltb, eqb, Ok, Err}
+use Rattle.std.specs.Prelude.{refl, Bool, true, false, List, [], ◌∷◌, ℕ, ◌≤◌, ◌<◌, ltb, eqb, Ok, Err, Some}
 use Rattle.std.proofs.Common.{◌∙◌, ap, arith}
 use Rattle.std.proofs.Math.Bool.{not}
 use Rattle.std.proofs.Math.ListN.{length, get_or, set}
@@ -14,7 +14,7 @@ use Rattle.graph.specs.declared.Ceilings.{Ceilings}
 use Rattle.graph.specs.Verdict.{verdict, Verdict}
 use Rattle.kernel.specs.declared.Decision.{Decision}
 use Rattle.kernel.specs.declared.Call.{Call}
-use Rattle.kernel.specs.Call.{given_record, transition}
+use Rattle.kernel.specs.Call.{Last, given_record, transition}
 use Rattle.kernel.specs.Decision.{decision_of}
 use Rattle.host.specs.Layout as layout
 use Rattle.host.specs.Layout.{call_length, record_length, answer_length, verdict_length}
@@ -106,16 +106,15 @@ module _ (n : ℕ) (c r : List ℕ) (b : ℕ) where
       sym (receipt_read (of_lent n (length c) (length r) b l))
       ∙ split (has_record c) (λ a. let m = g a in rw (k, a, m)) (λ a. rw (k, a))
 
--- The record that is given, read by count: where none goes with the call, it isn't looked at.
-given_rows : {r : List ℕ} {used : Used} {s : State} (b : Bool) → UsedRows b r used → s ≡ record_rows used.signals used.nodes r → given_record b s ≡ given_record b (record_of r)
-given_rows {r} true u p = ap (given_record true) (p ∙ rows_record r (u.past refl))
-given_rows false u p = refl
+-- The record that goes with a call, read by count.
+pub given_rows : {r : List ℕ} {used : Used} {s : State} → UsedRows true r used → s ≡ record_rows used.signals used.nodes r → Some s ≡ given_record true (record_of r)
+given_rows {r} u p = ap Some (p ∙ rows_record r (u.past refl))
 
 -- WHAT A CALL LEAVES in the buffer: the decision on what was read, or the buffer as it was.
 module _ (w : List ℕ) (n : ℕ) (c r b : List ℕ) where
-  pub made : {used : Used} {s : State} {k : Call} {d : Decision} → UsedRows (has_record c) r used → s ≡ record_rows used.signals used.nodes r → k ≡ call_of c → d ≡ decision_of (transition (workflow w) (given_record (has_record c) s) k) → d ≡ decided w c r
+  pub made : {g : Last} {k : Call} {d : Decision} → g ≡ given_record (has_record c) (record_of r) → k ≡ call_of c → d ≡ decision_of (transition (workflow w) g k) → d ≡ decided w c r
   unfolding decided
-  made u p q e = e ∙ rw (given_rows (has_record c) u p, q)
+  made p q e = e ∙ rw (p, q)
 
   pub left : {d : Decision} {l : List ℕ} → d ≡ decided w c r → receipt n c r (length b) ≡ layout.written → l ≡ splice b 0 (decision_numbers d) → l ≡ answered w n c r b
   unfolding answered

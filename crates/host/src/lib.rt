@@ -5,9 +5,10 @@ pub mod layout;
 pub mod read;
 pub mod write;
 
-ghost use Rattle.std.specs.Prelude.{◌≡◌, length};
-ghost use Rattle.host.specs.Layout.{layout_version, record_length, call_length, written};
-ghost use Rattle.host.specs.Read.{has_record};
+ghost use Rattle.std.specs.Prelude.{◌≡◌, ◌≤◌, length};
+ghost use Rattle.host.specs.Layout.{layout_version, record_length, call_length, store, nodes, written};
+ghost use Rattle.host.specs.Read.{has_record, record_of};
+ghost use Rattle.kernel.specs.Call.{given_record};
 ghost use Rattle.host.specs.ByCount.{UsedRows};
 ghost use Rattle.host.specs.Write.{decision_numbers};
 ghost use Rattle.host.specs.Host.{receipt, decided, answered, Full, verdict_receipt, verdict_numbers, judged};
@@ -16,6 +17,7 @@ ghost use Rattle.host.specs.Receipt.{by_lengths, by_numbers};
 use crate::read::{Used, call_fits, read_call, read_record, record_fits, used_rows};
 use crate::write::write_decision;
 use graph::{Broken, Ceilings};
+use model::State;
 use workflow::capped;
 use workflow::layout::{NODE_COUNT, NUMBERS};
 
@@ -62,6 +64,17 @@ fn by_numbers(call: &[u64], given: &[u64], used: Used) -> u32
     layout::BAD_CALL
 }
 
+// The record that goes with a call, if one does.
+fn read_given(given: &[u64], has_record: bool, used: Used) -> Option<State>
+    requires { (length given.now ≡ record_length) × (used.signals ≤ store) × (used.nodes ≤ nodes) × UsedRows has_record given.now used }
+    ensures { result ≡ given_record has_record (record_of given.now) }
+{
+    if has_record {
+        return Some(read_record(given, used));
+    }
+    None
+}
+
 // One call. Each array comes with its length. The answer's numbers are written to the buffer's beginning where the result
 // is 0; else the buffer stays as it is.
 pub fn kuxhoveza_transition(
@@ -86,7 +99,7 @@ pub fn kuxhoveza_transition(
     if numbers == layout::WRITTEN {
         write_decision(
             answer,
-            kernel::transition(sheet, has_record, read_record(given, used), read_call(call)),
+            kernel::transition(sheet, read_given(given, has_record, used), read_call(call)),
             nodes,
         );
     }

@@ -191,9 +191,7 @@ impl Run<'_> {
 
     // One call, shown. The record of an accepted call stands from then on; any other leaves the run as it was.
     fn go(&mut self, rt: &impl Print, what: &str, event: Event) -> io::Result<()> {
-        let record = self.record;
-        let state = record.unwrap_or(State::fresh(0));
-        let decision = kernel::transition(self.sheet, record.is_some(), state, call_with(event));
+        let decision = kernel::transition(self.sheet, self.record, call_with(event));
         if matches!(decision.answer, Answer::Next { .. }) {
             self.record = Some(decision.state);
         }
@@ -204,6 +202,7 @@ impl Run<'_> {
         self.go(rt, "start", self.event(code::RUN_STARTED))
     }
 
+    // Kept: `success` and `verdict` set other fields of their events; what they share is `event` and `go`.
     // The panel's shot and its correction succeeded.
     fn success(&mut self, rt: &impl Print, what: &str, visit: u32) -> io::Result<()> {
         let event = Event {

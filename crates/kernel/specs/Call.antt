@@ -21,13 +21,13 @@ use Rattle.kernel.specs.Code.{event_unfit, out_of_sequence, not_started, started
 use Rattle.kernel.specs.Drive.{Machine, driven}
 
 -- THE RECORD THAT STANDS, if there is one.
-pub data Last : Type 0 where
-  no_record : Last
-  last : State → Last
+abbrev pub Last : Type 0
+Last = Option State
 
+-- By the mark that says whether a record goes with a call.
 abbrev pub given_record : (has_record : Bool) → State → Last
-given_record true state = last state
-given_record false state = no_record
+given_record true state = Some state
+given_record false state = None
 
 -- THE STAGES BEFORE THE STEP: sheet, event, record.
 -- Start without record: 22 if sequence isn't 1; other without record: 23; start with record: 24; else 25 run check, then 22 if not last + 1.
@@ -47,8 +47,8 @@ next_stage sheet state kind sequence =
     )
 
 abbrev pub record_stage : Workflow → Call → Last → Verdict
-record_stage sheet call no_record = start_stage call.event.kind call.event.sequence
-record_stage sheet call (last state) = next_stage sheet state call.event.kind call.event.sequence
+record_stage sheet call None = start_stage call.event.kind call.event.sequence
+record_stage sheet call (Some state) = next_stage sheet state call.event.kind call.event.sequence
 
 unfoldable pub admission : Workflow → Last → Call → Verdict
 admission sheet standing call =
@@ -61,8 +61,8 @@ admission sheet standing call =
 
 -- THE STEP starts at the record that stands, or at a fresh one.
 abbrev pub given : Last → Call → State
-given no_record call = fresh call.event.input
-given (last state) call = state
+given None call = fresh call.event.input
+given (Some state) call = state
 
 -- THE ANSWER is one of three: a next record with its order, notes and endings; a want of one mapping value, with the record at that moment; a refusal with its number and item.
 pub record Accepted : Type 0 where

@@ -6,7 +6,7 @@ mod drive;
 
 ghost use Rattle.std.specs.Prelude.{◌≡◌, ◌+◌, eqb};
 ghost use Rattle.workflow.specs.View.{workflow};
-ghost use Rattle.kernel.specs.Call.{given_record, start_stage, next_stage, admission, transition};
+ghost use Rattle.kernel.specs.Call.{start_stage, next_stage, admission, transition};
 ghost use Rattle.kernel.specs.Decision.{decision_of};
 
 use graph::{Broken, Ceilings, rule};
@@ -47,10 +47,7 @@ pub struct Decision {
 fn is_next(sequence: u64, last: u64) -> bool
     ensures { result ≡ eqb sequence (last + 1) }
 {
-    if sequence == 0 {
-        return false;
-    }
-    sequence - 1 == last
+    last.checked_add(1) == Some(sequence)
 }
 
 // Without a record: 23, 22.
@@ -62,39 +59,36 @@ fn start_stage(kind: u32, sequence: u64) -> Result<(), Broken>
 }
 
 // With a record: 24, 25, 22.
-fn next_stage(w: &[u32; NUMBERS], s: State, kind: u32, sequence: u64) -> Result<(), Broken>
-    ensures { result ≡ next_stage (workflow w.now) s kind sequence }
+fn next_stage(w: &[u32; NUMBERS], s: &State, kind: u32, sequence: u64) -> Result<(), Broken>
+    ensures { result ≡ next_stage (workflow w.now) s.now kind sequence }
 {
     rule(code::STARTED_BEFORE, kind != record::RUN_STARTED)?;
-    rule(code::INCONSISTENT, snapshot::consistent(w, s))?;
+    rule(code::INCONSISTENT, snapshot::consistent(w, *s))?;
     rule(code::OUT_OF_SEQUENCE, is_next(sequence, s.last_sequence))
 }
 
-// The stages of a call before its step: sheet, event, record. Where there is no record, s is not looked at.
-pub fn admit(w: &[u32; NUMBERS], has_record: bool, s: State, c: Call) -> Result<(), Broken>
-    ensures { result ≡ admission (workflow w.now) (given_record has_record s) c }
+// The stages of a call before its step: sheet, event, record.
+pub fn admit(w: &[u32; NUMBERS], given: &Option<State>, c: &Call) -> Result<(), Broken>
+    ensures { result ≡ admission (workflow w.now) given.now c.now }
 {
     graph::validate(w, c.ceilings)?;
     rule(code::EVENT_UNFIT, snapshot::event_fits(c.event, c.mappings))?;
-    if has_record {
-        return next_stage(w, s, c.event.kind, c.event.sequence);
+    match given {
+        Some(s) => next_stage(w, s, c.event.kind, c.event.sequence),
+        None => start_stage(c.event.kind, c.event.sequence),
     }
-    start_stage(c.event.kind, c.event.sequence)
 }
 
-// One call: the record that comes next with its order, notes and endings; a want; or a refusal. Where there is no record,
-// s is not looked at.
-pub fn transition(w: &[u32; NUMBERS], has_record: bool, mut s: State, c: Call) -> Decision
-    ensures { result ≡ decision_of (transition (workflow w.now) (given_record has_record s) c) }
+// One call on the record that stands, if there is one: the record that comes next with its order, notes and endings; a want; or a refusal.
+pub fn transition(w: &[u32; NUMBERS], given: Option<State>, c: Call) -> Decision
+    ensures { result ≡ decision_of (transition (workflow w.now) given c) }
 {
-    if let Err(broken) = admit(w, has_record, s, c) {
+    if let Err(broken) = admit(w, &given, &c) {
         return drive::refusal(broken.rule, broken.item);
     }
-    let limits = c.limits;
-    let event = c.event;
-    let mappings = c.mappings;
-    if !has_record {
-        s = State::fresh(event.input);
-    }
-    drive::drive(w, s, limits, event, mappings)
+    let s = match given {
+        Some(s) => s,
+        None => State::fresh(c.event.input),
+    };
+    drive::drive(w, s, c.limits, c.event, c.mappings)
 }

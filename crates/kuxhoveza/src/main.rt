@@ -29,14 +29,14 @@ impl fmt::Display for Row<'_> {
     }
 }
 
-// A line for each row, as many as a count says.
-fn rows<W: Write, const N: usize>(
-    to: &mut W,
-    word: &str,
-    xs: &[[u64; N]],
-    count: u64,
-) -> io::Result<()> {
-    for row in xs.iter().take(count as usize) {
+// As many rows as a count says, or all where there are fewer.
+fn first<const N: usize>(rows: &[[u64; N]], count: u64) -> &[[u64; N]] {
+    &rows[..rows.len().min(count as usize)]
+}
+
+// A line for each row.
+fn rows<W: Write, const N: usize>(to: &mut W, word: &str, xs: &[[u64; N]]) -> io::Result<()> {
+    for row in xs {
         writeln!(to, "{word}{}", Row(row))?;
     }
     Ok(())
@@ -88,7 +88,7 @@ fn run<W: Write>(to: &mut W, xs: &[u64; ANSWER]) -> io::Result<()> {
     writeln!(to, "result{}", Row(result))?;
     let signals = &run[layout::RECORD_SIGNALS..layout::RECORD_VISITS];
     let (signals, _) = signals.as_chunks::<{ layout::SIGNAL_WIDTH }>();
-    rows(to, "signal", signals, run[layout::RECORD_STORED])?;
+    rows(to, "signal", first(signals, run[layout::RECORD_STORED]))?;
     let visits = &run[layout::RECORD_VISITS..layout::RECORD_STREAKS];
     let (visits, _) = visits.as_chunks::<1>();
     nodes(to, "visits", visits, 0)?;
@@ -120,10 +120,10 @@ fn next<W: Write>(to: &mut W, xs: &[u64; ANSWER]) -> io::Result<()> {
     order(to, xs)?;
     let notes = &xs[layout::ANSWER_NOTES..layout::ANSWER_ENDINGS];
     let (notes, _) = notes.as_chunks::<{ layout::NOTE_WIDTH }>();
-    rows(to, "note", notes, xs[layout::ANSWER_NOTED])?;
+    rows(to, "note", first(notes, xs[layout::ANSWER_NOTED]))?;
     let endings = &xs[layout::ANSWER_ENDINGS..layout::ANSWER_RECORD];
     let (endings, _) = endings.as_chunks::<{ layout::ENDING_WIDTH }>();
-    rows(to, "ending", endings, xs[layout::ANSWER_ENDED])?;
+    rows(to, "ending", first(endings, xs[layout::ANSWER_ENDED]))?;
     run(to, xs)?;
     write!(to, "run ")?;
     hexadecimal(to, xs)

@@ -3,7 +3,6 @@
 use crate::sample::Sample;
 use host::layout;
 use std::alloc::{AllocError, Global};
-use workflow::layout::NUMBERS as SHEET;
 
 // More bytes than a call has, or an answer.
 const ENOUGH: usize = 65536;
@@ -18,9 +17,23 @@ pub enum Judged {
     Differs,
 }
 
+// Why something has no bytes.
+#[derive(Drop)]
+enum Unwritten {
+    Refused,
+    Memory(AllocError),
+}
+
+impl From<AllocError> for Unwritten {
+    fn from(error: AllocError) -> Unwritten {
+        Unwritten::Memory(error)
+    }
+}
+
 // A number as LEB128.
 fn number(out: &mut Vec<u8>, n: u64) -> Result<(), AllocError> {
     let mut rest = n;
+    // Kept: this writer stands apart from crate codec, whose answers it judges; it counts no index.
     while 128 <= rest {
         out.push((rest % 128) as u8 + 128)?;
         rest /= 128;
@@ -36,73 +49,69 @@ fn numbers(out: &mut Vec<u8>, xs: &[u64]) -> Result<(), AllocError> {
     Ok(())
 }
 
-// As many rows as a count says.
-fn rows<const N: usize>(out: &mut Vec<u8>, xs: &[[u64; N]], count: u64) -> Result<(), AllocError> {
-    for row in xs.iter().take(count as usize) {
+// As many rows as a count says; refused where there are fewer.
+fn first<const N: usize>(rows: &[[u64; N]], count: u64) -> Result<&[[u64; N]], Unwritten> {
+    rows.get(..count as usize).ok_or(Unwritten::Refused)
+}
+
+fn rows<const N: usize>(out: &mut Vec<u8>, xs: &[[u64; N]]) -> Result<(), AllocError> {
+    for row in xs {
         numbers(out, row)?;
     }
     Ok(())
 }
 
 // What an exported function wrote into a buffer, by what it returned; none where it refused.
-fn written(mut buffer: Vec<u8>, told: u64) -> Option<Vec<u8>> {
+fn written(told: u64, buffer: &[u8]) -> Option<&[u8]> {
     if told % HALF != 0 {
         return None;
     }
-    buffer.truncate((told / HALF) as usize);
-    Some(buffer)
+    buffer.get(..(told / HALF) as usize)
 }
 
-fn buffer(alloc: Global) -> Result<Vec<u8>, AllocError> {
-    Ok(vec![in alloc; 0u8; ENOUGH]?)
+// Puts behind `out` what an exported function writes.
+fn put<F: FnOnce(&mut [u8]) -> u64>(out: &mut Vec<u8>, write: F) -> Result<(), Unwritten>
+    requires { F.IsAlwaysCallable write }
+{
+    let mut buffer = [0; ENOUGH];
+    let told = write(&mut buffer);
+    let bytes = written(told, &buffer).ok_or(Unwritten::Refused)?;
+    out.extend_from_slice(bytes)?;
+    Ok(())
 }
 
-fn sheet(alloc: Global, sheet: &[u32; SHEET]) -> Result<Option<Vec<u8>>, AllocError> {
-    let mut out = buffer(alloc)?;
-    let told = in_bytes::kuxhoveza_write_sheet(sheet, &mut out);
-    Ok(written(out, told))
+fn run(out: &mut Vec<u8>, record: &[u64]) -> Result<(), Unwritten> {
+    put(out, |buffer: &mut [u8]| {
+        in_bytes::kuxhoveza_write_run(record, buffer)
+    })
 }
 
-fn run(alloc: Global, record: &[u64]) -> Result<Option<Vec<u8>>, AllocError> {
-    let mut out = buffer(alloc)?;
-    let told = in_bytes::kuxhoveza_write_run(record, &mut out);
-    Ok(written(out, told))
-}
-
-// A recorded call; none where its sheet or its run isn't written, or it has more mapping answers than a call in bytes can have.
-fn call(alloc: Global, sample: &Sample) -> Result<Option<Vec<u8>>, AllocError> {
+// A recorded call; refused where its sheet or its run is, or it has more mapping answers than a call in bytes can have.
+fn call(alloc: Global, sample: &Sample) -> Result<Vec<u8>, Unwritten> {
     let call = &sample.call;
-    let answered = call[layout::CALL_ANSWERED];
-    if answered > layout::MAPPINGS as u64 {
-        return Ok(None);
-    }
-    let Some(graph) = sheet(alloc, &sample.sheet)? else {
-        return Ok(None);
-    };
     let mut out = Vec::new(alloc);
     numbers(&mut out, &call[..layout::CALL_HAS_RECORD])?;
-    out.extend_from_slice(&graph)?;
+    put(&mut out, |buffer: &mut [u8]| {
+        in_bytes::kuxhoveza_write_sheet(&sample.sheet, buffer)
+    })?;
     numbers(
         &mut out,
         &call[layout::CALL_HAS_RECORD..layout::CALL_SEQUENCE],
     )?;
     if call[layout::CALL_HAS_RECORD] == 1 {
-        let Some(given) = run(alloc, &sample.record)? else {
-            return Ok(None);
-        };
-        out.extend_from_slice(&given)?;
+        run(&mut out, &sample.record)?;
     }
     numbers(
         &mut out,
         &call[layout::CALL_SEQUENCE..layout::CALL_MAPPINGS],
     )?;
     let (mappings, _) = call[layout::CALL_MAPPINGS..].as_chunks::<{ layout::MAPPING_WIDTH }>();
-    rows(&mut out, mappings, answered)?;
-    Ok(Some(out))
+    rows(&mut out, first(mappings, call[layout::CALL_ANSWERED])?)?;
+    Ok(out)
 }
 
-// A recorded answer that isn't a refusal; none where its run isn't written.
-fn answer(alloc: Global, xs: &[u64; layout::ANSWER]) -> Result<Option<Vec<u8>>, AllocError> {
+// A recorded answer that isn't a refusal.
+fn answer(alloc: Global, xs: &[u64; layout::ANSWER]) -> Result<Vec<u8>, Unwritten> {
     let mut out = Vec::new(alloc);
     if xs[layout::ANSWER_KIND] == 2 {
         numbers(&mut out, &xs[..layout::WANT_WIDTH])?;
@@ -112,46 +121,42 @@ fn answer(alloc: Global, xs: &[u64; layout::ANSWER]) -> Result<Option<Vec<u8>>, 
         let endings = &xs[layout::ANSWER_ENDINGS..layout::ANSWER_RECORD];
         let (endings, _) = endings.as_chunks::<{ layout::ENDING_WIDTH }>();
         numbers(&mut out, &xs[..layout::ANSWER_NOTES])?;
-        rows(&mut out, notes, xs[layout::ANSWER_NOTED])?;
-        rows(&mut out, endings, xs[layout::ANSWER_ENDED])?;
+        rows(&mut out, first(notes, xs[layout::ANSWER_NOTED])?)?;
+        rows(&mut out, first(endings, xs[layout::ANSWER_ENDED])?)?;
     }
-    let Some(record) = run(alloc, &xs[layout::ANSWER_RECORD..])? else {
-        return Ok(None);
-    };
-    out.extend_from_slice(&record)?;
-    Ok(Some(out))
+    run(&mut out, &xs[layout::ANSWER_RECORD..])?;
+    Ok(out)
 }
 
 // What the call in bytes says is what the recorded answer says, and past its bytes nothing is written.
 fn agrees(
     alloc: Global,
     told: u64,
-    out: &Vec<u8>,
+    out: &[u8],
     xs: &[u64; layout::ANSWER],
-) -> Result<bool, AllocError> {
+) -> Result<bool, Unwritten> {
     if xs[layout::ANSWER_KIND] == 3 {
         return Ok(
             told % HALF == xs[layout::ANSWER_REFUSAL_NUMBER]
                 && told / HALF == xs[layout::ANSWER_REFUSAL_ITEM],
         );
     }
-    let Some(mut due) = answer(alloc, xs)? else {
-        return Ok(false);
-    };
-    let size = due.len() as u64;
-    due.resize(ENOUGH, 0)?;
-    Ok(told % HALF == 0 && told / HALF == size && *out == due)
+    let due = answer(alloc, xs)?;
+    let bytes = written(told, out).ok_or(Unwritten::Refused)?;
+    Ok(bytes == due.as_slice() && out.iter().skip(bytes.len()).all(|x| *x == 0))
 }
 
 pub fn judge(alloc: Global, sample: &Sample) -> Result<Judged, AllocError> {
-    let Some(bytes) = call(alloc, sample)? else {
-        return Ok(Judged::Unwritten);
+    let bytes = match call(alloc, sample) {
+        Ok(bytes) => bytes,
+        Err(Unwritten::Refused) => return Ok(Judged::Unwritten),
+        Err(Unwritten::Memory(error)) => return Err(error),
     };
-    let mut out = buffer(alloc)?;
+    let mut out = [0; ENOUGH];
     let told = in_bytes::kuxhoveza_call(&bytes, &mut out);
-    Ok(if agrees(alloc, told, &out, &sample.answer)? {
-        Judged::Agrees
-    } else {
-        Judged::Differs
-    })
+    match agrees(alloc, told, &out, &sample.answer) {
+        Ok(true) => Ok(Judged::Agrees),
+        Ok(false) | Err(Unwritten::Refused) => Ok(Judged::Differs),
+        Err(Unwritten::Memory(error)) => Err(error),
+    }
 }

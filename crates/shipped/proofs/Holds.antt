@@ -1,12 +1,12 @@
 -- What a host reads of its calls is the list of demand 3, so demand 3 speaks of what is shipped.
-use Rattle.std.specs.Prelude.{◌≡◌, refl, true, false, not, ℕ, length, eqb}
+use Rattle.std.specs.Prelude.{◌≡◌, refl, true, false, not, ℕ, length, eqb, Some, None}
 use Rattle.std.proofs.Math.Path.{sym}
 use Rattle.std.proofs.Common.{◌∙◌, ap, subst, eqb-true}
 use mathlib.Core.List.{List, [], ◌∷◌}
 use Rattle.laws.specs.Bool.{when◌then◌else◌, ◌and◌, split}
 use Rattle.laws.specs.All.{All, all_map}
 use Rattle.workflow.specs.View.{workflow}
-use Rattle.kernel.specs.Call.{Answer, next, wants, refused, Last, no_record, last, given_record, transition}
+use Rattle.kernel.specs.Call.{Answer, next, wants, refused, Last, given_record, transition}
 use Rattle.demand3.specs.Demand3.{Entry, standing_after, standing as standing_record, next_entry, history, accepted, Demand3, OrderedBefore}
 use Rattle.demand3.specs.Single.{Proper}
 use Rattle.demand3.proofs.Holds.{holds, all_ordered, all_proper}
@@ -21,8 +21,8 @@ use Rattle.shipped.specs.Shipped.{Made, is_answered, answer_in, record_in, Stand
 
 -- THE RECORD THAT STANDS, read; and its numbers fit.
 abbrev read : Standing → Last
-read nothing = no_record
-read (numbers ns) = last (record_of ns)
+read nothing = None
+read (numbers ns) = Some (record_of ns)
 
 abbrev Fine : Standing → Type 0
 Fine nothing = Unit {0}
@@ -45,7 +45,7 @@ after b k = when eqb (at (answer_in b) answer_kind) 1 then numbers (record_in b)
 
 stands_after : (a : Answer) (b : List ℕ) (k : Standing) → at (answer_in b) answer_kind ≡ kind_of a → RecordBack a (record_in b) → Fine k → (standing_after a (read k) ≡ read (after b k)) × (Fine (after b k))
 unfolding when◌then◌else◌
-stands_after (next a) b k e t h = rw e (ap last (sym t.same), t.fits)
+stands_after (next a) b k e t h = rw e (ap Some (sym t.same), t.fits)
 stands_after (wants n i f s) b k e t h = rw e (refl, h)
 stands_after (refused r i) b k e t h = rw e (refl, h)
 

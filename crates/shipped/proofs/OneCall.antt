@@ -1,5 +1,5 @@
 -- One call that returns 0: what it wrote is the answer of the definition, and the record in it fits and is read back as the record of that answer.
-use Rattle.std.specs.Prelude.{◌≡◌, refl, Bool, not, List, ℕ, length, drop}
+use Rattle.std.specs.Prelude.{◌≡◌, refl, Bool, not, List, ℕ, length, drop, Some, None}
 use Rattle.std.proofs.Math.Bool.{true, false}
 use Rattle.std.proofs.lemmas.Bool.{not-false}
 use Rattle.laws.specs.Bool.{◌and◌}
@@ -7,7 +7,7 @@ use Rattle.laws.specs.All.{All}
 use Rattle.workflow.specs.View.{Workflow, workflow}
 use Rattle.model.specs.declared.State.{State}
 use Rattle.model.specs.Answers.{answer_numbers}
-use Rattle.kernel.specs.Call.{Last, no_record, last, Answer, next, wants, refused, given_record, transition}
+use Rattle.kernel.specs.Call.{Last, Answer, next, wants, refused, given_record, transition}
 use Rattle.kernel.specs.Decision.{decision_of}
 use Rattle.demand3.specs.Steps.{begun}
 use Rattle.demand3.specs.Single.{Proper, Single, SizedLast}
@@ -64,8 +64,8 @@ record_there (refused k i) t = tt
 
 -- WHAT HOLDS OF EVERY SINGLE CALL (demand3, Single) holds here: a record that fits has its arrays whole.
 sized : (r : Last) → LastFits r → SizedLast r
-sized no_record t = tt
-sized (last s) t = record { signals = t.signals_long; visits = t.visits_long; results = t.results_long; streaks = t.streaks_long }
+sized None t = tt
+sized (Some s) t = record { signals = t.signals_long; visits = t.visits_long; results = t.results_long; streaks = t.streaks_long }
 
 answer_fits : (f : Workflow) (a : Answer) → RecordFits a → Proper f a → AnswerFits a
 answer_fits f (next a) t p = record { state = t; notes = p.few_notes; endings = p.few_endings }

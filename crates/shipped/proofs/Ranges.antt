@@ -36,14 +36,14 @@ use Rattle.machine.specs.Events.{success_outcome, not_applicable, stick, on_ende
 use Rattle.kernel.specs.declared.Limits.{Limits}
 use Rattle.kernel.specs.declared.Call.{Call}
 use Rattle.kernel.specs.Drive.{Machine, counting, consume_by, advance_by, advance, is_moving, started, driven}
-use Rattle.kernel.specs.Call.{Last, no_record, last, Answer, next, wants, refused, admission, given, closed, finish_by, transition_by, transition}
+use Rattle.kernel.specs.Call.{Last, Answer, next, wants, refused, admission, given, closed, finish_by, transition_by, transition}
 use Rattle.host.specs.Fits.{Number, Name, Code, ErrorFits, OutputFits, KeptFits, SignalFits, StreakFits, ResultFits, PositionFits, InvocationFits, EventFits, MappingFits, CallFits, Fits}
 use Rattle.shipped.proofs.Sheet.{SheetFits, Sheet, admitted_sheet}
 
 -- The record that stands, if there is one; and the record of an answer, if it has one.
 abbrev pub LastFits : Last → Type 0
-LastFits no_record = Unit {0}
-LastFits (last s) = Fits s
+LastFits None = Unit {0}
+LastFits (Some s) = Fits s
 
 abbrev pub RecordFits : Answer → Type 0
 RecordFits (next a) = Fits a.state
@@ -452,8 +452,8 @@ finish_fits Take l x t = tt
 finish_fits Consume l x t = tt
 
 given_fits : (r : Last) (c : Call) → CallFits c → LastFits r → Fits (given r c)
-given_fits no_record c h t = fits_fresh c.event.input h.event.input
-given_fits (last s) c h t = t
+given_fits None c h t = fits_fresh c.event.input h.event.input
+given_fits (Some s) c h t = t
 
 by_verdict : (f : Workflow) (r : Last) (c : Call) (v : Verdict) → admission f r c ≡ v → SheetFits f → CallFits c → LastFits r → RecordFits (transition_by v f r c)
 unfolding transition_by

@@ -18,7 +18,7 @@ use Rattle.model.specs.Code.{no_retry, unencodable}
 use Rattle.kernel.specs.Code.{microsteps_exceeded}
 use Rattle.kernel.specs.Drive.{Machine, driven}
 use Rattle.kernel.specs.declared.Call.{Call}
-use Rattle.kernel.specs.Call.{Answer, next, wants, refused, Last, no_record, last, start_stage, next_stage, record_stage, admission, given, finish_by, transition_by, transition}
+use Rattle.kernel.specs.Call.{Answer, next, wants, refused, Last, start_stage, next_stage, record_stage, admission, given, finish_by, transition_by, transition}
 use Rattle.demand3.specs.Single.{SizedLast}
 use Rattle.demand3.proofs.Single.{Begins, admitted, begins}
 use Rattle.demand3.proofs.Driver.{Checks, checked_driven}
@@ -80,8 +80,8 @@ known_verdict f c = search (known_stages, known_actions) depth 20
 
 known_record : (f : Workflow) (c : Call) (r : Last) → Known (record_stage f c r)
 unfolding start_stage next_stage
-known_record f c no_record = search known_stages depth 8
-known_record f c (last s) = search known_stages depth 8
+known_record f c None = search known_stages depth 8
+known_record f c (Some s) = search known_stages depth 8
 
 known_admission : (f : Workflow) (r : Last) (c : Call) → Known (admission f r c)
 unfolding admission

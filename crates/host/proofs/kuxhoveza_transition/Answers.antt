@@ -27,8 +27,8 @@ by_numbers-numbers-requires c =
     let l = lent _ _ _ _ (sym c.by_lengths-lengths.ensures ∙ c.if-lengths-ne-WRITTEN.false) in
     (l.call, l.given, c.used_rows-used.ensures)
 
-pub read_record-requires : goal.read_record-requires
-read_record-requires c = ((lent _ _ _ _ (sym c.by_lengths-lengths.ensures ∙ c.if-lengths-ne-WRITTEN.false)).given, c.used_rows-used.ensures.signals, c.used_rows-used.ensures.nodes)
+pub read_given-requires : goal.read_given-requires
+read_given-requires c = ((lent _ _ _ _ (sym c.by_lengths-lengths.ensures ∙ c.if-lengths-ne-WRITTEN.false)).given, c.used_rows-used.ensures.signals, c.used_rows-used.ensures.nodes, c.used_rows-used.ensures)
 
 pub read_call-requires : goal.read_call-requires
 read_call-requires c = (lent _ _ _ _ (sym c.by_lengths-lengths.ensures ∙ c.if-lengths-ne-WRITTEN.false)).call
@@ -45,7 +45,7 @@ returns-then-numbers-eq-WRITTEN c =
     let r = a.given.now in
     let b = a.answer.now in
     let told = c.by_numbers-numbers.ensures ∙ receipt_read n k r _ (sym c.by_lengths-lengths.ensures ∙ c.if-lengths-ne-WRITTEN.false) in
-    let d = made w n k r b c.used_rows-used.ensures c.read_record.ensures c.read_call.ensures c.transition.ensures in
+    let d = made w n k r b c.read_given.ensures c.read_call.ensures c.transition.ensures in
     record {
       value = told;
       answer_after = left w n k r b d (sym told ∙ c.if-numbers-eq-WRITTEN.true) c.write_decision.ensures.out_after;

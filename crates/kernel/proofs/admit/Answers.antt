@@ -1,7 +1,6 @@
 use mathlib.Core.Path.{◌∙◌, ap}
 use Rattle.graph.specs.Chain.{stops, goes_on, ends}
 use Rattle.graph.specs.Verdict.{rule}
-use Rattle.kernel.specs.Admission.{with_record, without_record}
 use Rattle.kernel.specs.Code.{event_unfit}
 use Rattle.kernel.specs.Call.{admission}
 use Rattle.kernel.proofs.admit.Goals as goal
@@ -16,16 +15,16 @@ returns-in_err-rule c =
     goes_on _ c.in_ok-validate.ensures
     (stops _ (c.in_err-rule.ensures ∙ ap (rule event_unfit) c.event_fits.ensures) c.from_residual-in_err-rule.ensures.1)
 
-pub returns-then-has_record : goal.returns-then-has_record
+pub returns-in-Some : goal.returns-in-Some
 unfolding admission
-returns-then-has_record c =
+returns-in-Some c =
     goes_on _ c.in_ok-validate.ensures
     (goes_on _ (c.in_ok-rule.ensures ∙ ap (rule event_unfit) c.event_fits.ensures)
-    (ends (with_record _ c.args.s c.args.c c.if-has_record.true c.next_stage.ensures)))
+    (ends (simp c.in-Some.is c.next_stage.ensures)))
 
-pub returns : goal.returns
+pub returns-in-None : goal.returns-in-None
 unfolding admission
-returns c =
+returns-in-None c =
     goes_on _ c.in_ok-validate.ensures
     (goes_on _ (c.in_ok-rule.ensures ∙ ap (rule event_unfit) c.event_fits.ensures)
-    (ends (without_record _ c.args.s c.args.c c.if-has_record.false c.start_stage.ensures)))
+    (ends (simp c.in-None.is c.start_stage.ensures)))
