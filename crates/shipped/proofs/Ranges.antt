@@ -1,4 +1,5 @@
 -- Every record that a call hands back fits: each of its numbers is one that its field can hold.
+use Rattle.graph.specs.Verdict.{Verdict}
 use Rattle.std.specs.Prelude.{◌≡◌, Bool, List, length, get_or, set, Option, Some, None, Result, Ok, Err}
 use Rattle.std.proofs.Math.Path.{refl}
 use Rattle.std.proofs.Common.{◌∙◌, length-set}
