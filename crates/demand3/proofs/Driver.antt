@@ -12,6 +12,7 @@ use Rattle.laws.specs.Settle.{settle, settle_rests}
 use Rattle.workflow.specs.View.{Workflow}
 use Rattle.workflow.specs.Lookup.{node_of}
 use Rattle.workflow.specs.Sound.{Sound}
+use Rattle.workflow.specs.declared.refusal.Refusal.{Refusal}
 use Rattle.model.specs.declared.State.{State}
 use Rattle.model.specs.declared.event.Event.{Event}
 use Rattle.model.specs.declared.event.Mappings.{Mappings}
@@ -20,13 +21,12 @@ use Rattle.model.specs.declared.answer.Ending.{Ending}
 use Rattle.model.specs.declared.moves.Next.{Next}
 use Rattle.model.specs.declared.moves.Next.TheVariants.{Rest, Enter, Take, Consume, Wants, Refuse}
 use Rattle.model.specs.declared.moves.Move.{Move}
-use Rattle.model.specs.Code.{activity_result, no_retry, unencodable}
+use Rattle.model.specs.Code.{activity_result}
 use Rattle.model.specs.Record.{is_terminal, seen}
 use Rattle.model.specs.Store.{first_signal, signal_at, removed}
 use Rattle.model.specs.StoreLaws.{first_inside}
 use Rattle.model.specs.Step.{still, arrival}
 use Rattle.machine.specs.Events.{apply}
-use Rattle.kernel.specs.Code.{microsteps_exceeded}
 use Rattle.kernel.specs.Drive.{Machine, added, moved, counting, consume_by, advance_by, advance, moves_on, is_moving, opened, started, driven}
 use Rattle.kernel.specs.Bounds.{Bounds, Bounded, fewer, stopped, bounded_advance, bounded_started}
 use Rattle.demand3.specs.Words.{plain}
@@ -69,7 +69,7 @@ module _ (f : Workflow) (sheet : Sound f) (limit : ℕ) (e : Event) (m : Mapping
   Fine s Take = Tidy.After f s Take
   Fine s Consume = Tidy.After f s Consume
   Fine s (Wants n i b) = Tidy.After f s (Wants n i b)
-  Fine s (Refuse k) = ((k ≡ no_retry) ⊎ (k ≡ unencodable)) ⊎ ((k ≡ microsteps_exceeded) × (limit < 130))
+  Fine s (Refuse k) = ((k ≡ Refusal.NoRetry) ⊎ (k ≡ Refusal.Unencodable)) ⊎ ((k ≡ Refusal.MicrostepsExceeded) × (limit < 130))
 
   fine : (s : State) (n : Next) → Tidy.After f s n → Fine s n
   fine s Rest a = a

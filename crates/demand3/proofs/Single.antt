@@ -11,6 +11,8 @@ use Rattle.workflow.specs.Code.{none}
 use Rattle.workflow.specs.View.{Workflow}
 use Rattle.workflow.specs.Lookup.{node_of}
 use Rattle.workflow.specs.Sound.{Sound}
+use Rattle.workflow.specs.declared.refusal.Refusal.{Refusal}
+use Rattle.workflow.specs.Refusal.{number}
 use Rattle.graph.specs.Verdict.{verdict, Verdict}
 use Rattle.graph.specs.Chain.{stage, stage_fine, rule_holds, Mild, mild_stages}
 use Rattle.graph.specs.Accepted.{rules, sound, verdict_mild}
@@ -19,14 +21,13 @@ use Rattle.model.specs.declared.event.Event.{Event}
 use Rattle.model.specs.declared.event.Mappings.{Mappings}
 use Rattle.model.specs.declared.moves.Next.{Next}
 use Rattle.model.specs.declared.moves.Next.TheVariants.{Rest, Enter, Take, Consume, Wants, Refuse}
-use Rattle.model.specs.Code.{largest, running, waiting, invariant, no_retry, unencodable}
+use Rattle.model.specs.Code.{largest, running, waiting}
 use Rattle.model.specs.Record.{visits_of, is_terminal, seen, fresh}
 use Rattle.model.specs.Store.{leaves_over}
 use Rattle.model.specs.StoreLaws.{IsSlotted}
 use Rattle.snapshot.specs.EventCheck.{event_fits}
 use Rattle.snapshot.specs.Check.{is_no_invocation, terminal_fits, waits, works, live_fits, consistent, stands}
 use Rattle.machine.specs.Events.{apply}
-use Rattle.kernel.specs.Code.{event_unfit, out_of_sequence, not_started, started_before, inconsistent, microsteps_exceeded, commands_exceeded, operations_exceeded}
 use Rattle.kernel.specs.Drive.{Machine, started, driven}
 use Rattle.kernel.specs.declared.Call.{Call}
 use Rattle.kernel.specs.Call.{refused, Last, is_start, start_stage, next_stage, record_stage, admission, given, finish_by, transition_by, transition}
@@ -49,17 +50,17 @@ pub admitted : (f : Workflow) (r : Last) (c : Call) → admission f r c ≡ Ok t
 unfolding admission
 admitted f r c e =
     let v : verdict f c.ceilings ≡ Ok tt = stage_fine e (search stage depth 8) in
-    record { sheet = sound f (rules f c.ceilings v); event = rule_holds event_unfit e (search stage depth 8); stage = stage_fine e (search stage depth 8) }
+    record { sheet = sound f (rules f c.ceilings v); event = rule_holds Refusal.EventUnfit e (search stage depth 8); stage = stage_fine e (search stage depth 8) }
 
 -- A refusal before the step is none of 0 and 26.
 mild_record : (f : Workflow) (c : Call) (r : Last) → Mild (record_stage f c r)
 unfolding start_stage next_stage
-mild_record f c None = search (mild_stages, refl) depth 8
-mild_record f c (Some s) = search (mild_stages, refl) depth 8
+mild_record f c None = search mild_stages depth 8
+mild_record f c (Some s) = search mild_stages depth 8
 
 mild_admission : (f : Workflow) (r : Last) (c : Call) → Mild (admission f r c)
 unfolding admission
-mild_admission f r c = search (mild_stages, verdict_mild, mild_record, refl) depth 8
+mild_admission f r c = search (mild_stages, verdict_mild, mild_record) depth 8
 
 -- THE RECORD THAT A STEP STARTS AT.
 in_time : (e : Event) (m : Mappings) → event_fits e m ≡ true → (e.sequence ≤ largest) × (e.accepted_at ≤ largest)
@@ -106,8 +107,8 @@ pub begins : (f : Workflow) (r : Last) (c : Call) → SizedLast r → Admitted f
 unfolding start_stage next_stage
 begins f None c z a =
     let u = in_time c.event c.mappings a.event in
-    let k : is_start c.event.kind ≡ true = rule_holds not_started a.stage (search stage depth 8) in
-    let q : eqb c.event.sequence 1 ≡ true = rule_holds out_of_sequence a.stage (search stage depth 8) in
+    let k : is_start c.event.kind ≡ true = rule_holds Refusal.NotStarted a.stage (search stage depth 8) in
+    let q : eqb c.event.sequence 1 ≡ true = rule_holds Refusal.OutOfSequence a.stage (search stage depth 8) in
     let s = fresh c.event.input in
     record {
       sized = record { signals = refl; visits = refl; results = refl; streaks = refl };
@@ -122,11 +123,11 @@ begins f None c z a =
     }
 begins f (Some s) c z a =
     let u = in_time c.event c.mappings a.event in
-    let n : not (is_start c.event.kind) ≡ true = rule_holds started_before a.stage (search stage depth 8) in
+    let n : not (is_start c.event.kind) ≡ true = rule_holds Refusal.StartedBefore a.stage (search stage depth 8) in
     let k : is_start c.event.kind ≡ false = not-true _ n in
-    let g : consistent f s ≡ true = rule_holds inconsistent a.stage (search stage depth 8) in
+    let g : consistent f s ≡ true = rule_holds Refusal.Inconsistent a.stage (search stage depth 8) in
     let t = Tidy.tidy_of f s z g in
-    let q : eqb c.event.sequence (s.last_sequence + 1) ≡ true = rule_holds out_of_sequence a.stage (search stage depth 8) in
+    let q : eqb c.event.sequence (s.last_sequence + 1) ≡ true = rule_holds Refusal.OutOfSequence a.stage (search stage depth 8) in
     record {
       sized = z;
       slotted = t.0.store.slotted;
@@ -141,7 +142,7 @@ begins f (Some s) c z a =
 
 -- AFTER THE STEP.
 -- A refusal is named by what it is not.
-refuses : (f : Workflow) (c : Call) (count k i : ℕ) → count ≤ 130 → (k ≡ invariant → ⊥) → (k ≡ microsteps_exceeded → ⊥) → Single f c count (refused k i)
+refuses : (f : Workflow) (c : Call) (count : ℕ) (k : Refusal) (i : ℕ) → count ≤ 130 → (number k ≡ 0 → ⊥) → (number k ≡ 26 → ⊥) → Single f c count (refused k i)
 refuses f c count k i l z n = record { proper = z; few = l; reports = tt; never_26 = λ _ e. n e }
 
 module _ (f : Workflow) (sheet : Sound f) (c : Call) (s : State) (b : Begins f s c.event) where
@@ -161,8 +162,8 @@ module _ (f : Workflow) (sheet : Sound f) (c : Call) (s : State) (b : Begins f s
   unfolding finish_by
   finishes Rest z h =
       let y = closes f x h.checks.tidy h.checks.well (omega (arith, h.bounds.few_endings)) in
-      either (Single f c all_steps) _ (λ _. refuses f c all_steps commands_exceeded none few (λ e. omega arith) (λ e. omega arith))
-      (λ _. either (Single f c all_steps) _ (λ _. refuses f c all_steps operations_exceeded none few (λ e. omega arith) (λ e. omega arith))
+      either (Single f c all_steps) _ (λ _. refuses f c all_steps Refusal.CommandsExceeded none few (λ e. omega arith) (λ e. omega arith))
+      (λ _. either (Single f c all_steps) _ (λ _. refuses f c all_steps Refusal.OperationsExceeded none few (λ e. omega arith) (λ e. omega arith))
       (λ _. record {
         proper =
             record {
@@ -181,10 +182,10 @@ module _ (f : Workflow) (sheet : Sound f) (c : Call) (s : State) (b : Begins f s
   finishes (Wants n i j) z h = record { proper = h.checks; few = few; reports = tt; never_26 = tt }
   finishes (Refuse k) z h = by h.checks
     where
-      by : ((k ≡ no_retry) ⊎ (k ≡ unencodable)) ⊎ ((k ≡ microsteps_exceeded) × (c.limits.microsteps < 130)) → Single f c all_steps (refused k none)
-      by (inl (inl e)) = refuses f c all_steps k none few (λ y. omega arith) (λ y. omega arith)
-      by (inl (inr e)) = refuses f c all_steps k none few (λ y. omega arith) (λ y. omega arith)
-      by (inr e) = record { proper = λ y. omega (arith, e.0); few = few; reports = tt; never_26 = λ l _. omega (arith, e.1) }
+      by : ((k ≡ Refusal.NoRetry) ⊎ (k ≡ Refusal.Unencodable)) ⊎ ((k ≡ Refusal.MicrostepsExceeded) × (c.limits.microsteps < 130)) → Single f c all_steps (refused k none)
+      by (inl (inl e)) = refuses f c all_steps k none few (λ y. omega (arith, ap number e)) (λ y. omega (arith, ap number e))
+      by (inl (inr e)) = refuses f c all_steps k none few (λ y. omega (arith, ap number e)) (λ y. omega (arith, ap number e))
+      by (inr e) = record { proper = λ y. omega (arith, ap number e.0); few = few; reports = tt; never_26 = λ l _. omega (arith, e.1) }
 
 single_by : (f : Workflow) (r : Last) (c : Call) (v : Verdict) → admission f r c ≡ v → SizedLast r → Single f c (begun_by v f r c) (transition_by v f r c)
 unfolding transition_by begun_by
@@ -194,7 +195,7 @@ single_by f r c (Ok tt) e z =
     finishes f a.sheet c (given r c) b _ refl (checked_driven f a.sheet c.limits.microsteps c.event c.mappings (given r c) b.slotted.room b.tidy)
 single_by f r c (Err x) e z =
     let m = (mild_admission f r c).mild x e in
-    refuses f c 0 x.rule x.item (omega arith) m.0 m.1
+    refuses f c 0 x.refusal x.item (omega arith) m.0 m.1
 
 -- EVERY CALL.
 pub every_call : (f : Workflow) (r : Last) (c : Call) → SizedLast r → Single f c (begun f r c) (transition f r c)

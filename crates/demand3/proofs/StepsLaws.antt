@@ -7,6 +7,7 @@ use native.Mathlib.Omega.{arith}
 use Rattle.laws.specs.Bool.{when◌then◌else◌, split, either}
 use Rattle.laws.specs.Settle.{settle, settle_rests}
 use Rattle.workflow.specs.View.{Workflow}
+use Rattle.workflow.specs.declared.refusal.Refusal.{Refusal}
 use Rattle.model.specs.declared.State.{State}
 use Rattle.model.specs.declared.event.Event.{Event}
 use Rattle.model.specs.declared.event.Mappings.{Mappings}
@@ -15,7 +16,6 @@ use Rattle.model.specs.declared.moves.Next.TheVariants.{Rest, Enter, Take, Consu
 use Rattle.model.specs.declared.moves.Move.{Move}
 use Rattle.model.specs.Store.{first_signal}
 use Rattle.model.specs.StoreLaws.{first_inside}
-use Rattle.kernel.specs.Code.{microsteps_exceeded}
 use Rattle.kernel.specs.Cost.{cost}
 use Rattle.kernel.specs.Drive.{Machine, counting, consume_by, advance_by, advance, moves_on, is_moving, started, driven}
 use Rattle.kernel.specs.Bounds.{Bounded, bounded_advance, bounded_started}
@@ -25,7 +25,7 @@ module _ (f : Workflow) (limit : ℕ) (e : Event) (m : Mappings) where
   -- A move counts what it is, or is refused.
   data Step (x y : Machine) (j : ℕ) : Type 0 where
     made_it : y.microsteps ≡ x.microsteps + j → Step x y j
-    stopped_it : y.next ≡ Refuse microsteps_exceeded → j ≡ 1 → Step x y j
+    stopped_it : y.next ≡ Refuse Refusal.MicrostepsExceeded → j ≡ 1 → Step x y j
 
   step_counting : (x : Machine) (v : Move) → Step x (counting f limit e m x v) 1
   unfolding counting
@@ -88,7 +88,7 @@ module _ (f : Workflow) (limit : ℕ) (e : Event) (m : Mappings) where
       go i (made_it g) h = omega (arith, g, i h)
       go i (stopped_it g o) h =
           let r = settle_rests (is_moving f limit e m) (advance f limit e m) k (advance f limit e m x) (ap (moves_on f limit e m) g) in
-          let z : Refuse microsteps_exceeded ≡ Rest = sym g ∙ sym (ap (λ (w : Machine). w.next) r) ∙ h in
+          let z : Refuse Refusal.MicrostepsExceeded ≡ Rest = sym g ∙ sym (ap (λ (w : Machine). w.next) r) ∙ h in
           let w : ◌≡◌ {A = ℕ} 0 1 = cc in
           absurd (omega arith)
 

@@ -17,6 +17,7 @@ use Rattle.model.specs.Code.{largest, waiting, running, needs_intervention, run_
 use Rattle.workflow.specs.View.{Workflow}
 use Rattle.workflow.specs.Lookup.{is_0_2, node_slots, node_of, route_of, routed, limit_of, declares}
 use Rattle.workflow.specs.Sound.{Sound}
+use Rattle.workflow.specs.declared.refusal.Refusal.{Refusal}
 use Rattle.model.specs.declared.ErrorInfo.{ErrorInfo}
 use Rattle.model.specs.declared.Output.{Output}
 use Rattle.model.specs.declared.BufferedSignal.{BufferedSignal}
@@ -141,7 +142,7 @@ module _ (f : Workflow) where
   After s Take = Waiting s
   After s Consume = Waiting s
   After s (Wants n i b) = Tidies f s
-  After s (Refuse k) = (k ≡ 27) ⊎ (k ≡ 28)
+  After s (Refuse k) = (k ≡ Refusal.NoRetry) ⊎ (k ≡ Refusal.Unencodable)
 
   -- A good move.
   pub record Good (v : Move) : Type 0 where

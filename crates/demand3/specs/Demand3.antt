@@ -7,6 +7,7 @@ use Rattle.laws.specs.Every.{every}
 use Rattle.laws.specs.All.{All, Distinct}
 use Rattle.laws.specs.In.{In}
 use Rattle.workflow.specs.View.{Workflow}
+use Rattle.workflow.specs.Refusal.{number}
 use Rattle.model.specs.declared.State.{State}
 use Rattle.model.specs.declared.event.Event.{Event}
 use Rattle.model.specs.declared.answer.Order.{Order}
@@ -16,7 +17,6 @@ use Rattle.model.specs.Record.{is_terminal}
 use Rattle.model.specs.Store.{stored}
 use Rattle.snapshot.specs.Check.{consistent}
 use Rattle.kernel.specs.declared.Call.{Call}
-use Rattle.kernel.specs.Code.{microsteps_exceeded}
 use Rattle.kernel.specs.Call.{Accepted, Answer, next, wants, refused, Last, transition}
 use Rattle.demand3.specs.Words.{is_it, times, Counts, plain}
 use Rattle.demand3.specs.Steps.{begun}
@@ -33,7 +33,7 @@ pub record Entry : Type 0 where
 abbrev pub standing_after : Answer → Last → Last
 standing_after (next accepted) before = Some accepted.state
 standing_after (wants node field from state) before = before
-standing_after (refused number item) before = before
+standing_after (refused refusal item) before = before
 
 unfoldable pub standing : List Entry → Last
 standing [] = None
@@ -54,7 +54,7 @@ pub record Done : Type 0 where
 abbrev pub done_by : Event → Answer → List Done
 done_by event (next accepted) = record { event = event; answer = accepted } ∷ []
 done_by event (wants node field from state) = []
-done_by event (refused number item) = []
+done_by event (refused refusal item) = []
 
 unfoldable pub accepted : List Entry → List Done
 accepted [] = []
@@ -147,13 +147,13 @@ counts sheet entry = begun sheet entry.given entry.call
 abbrev pub Reports : (count : ℕ) → Answer → Type 0
 Reports count (next accepted) = accepted.microsteps ≡ count
 Reports count (wants node field from state) = Unit {0}
-Reports count (refused number item) = Unit {0}
+Reports count (refused refusal item) = Unit {0}
 
 -- At a microstep limit of 130 or more no call of the list is refused with 26.
 abbrev pub Not26 : Call → Answer → Type 0
 Not26 call (next accepted) = Unit {0}
 Not26 call (wants node field from state) = Unit {0}
-Not26 call (refused number item) = 130 ≤ call.limits.microsteps → number ≡ microsteps_exceeded → ⊥
+Not26 call (refused refusal item) = 130 ≤ call.limits.microsteps → number refusal ≡ 26 → ⊥
 
 -- THE CLAIM.
 pub record Demand3 (sheet : Workflow) (history : List Entry) : Type 0 where

@@ -1,6 +1,8 @@
 -- Joint A of document 01: its twelve cases, and those of document 02, as one computed table over the definition of the call.
 use Rattle.std.specs.Prelude.{◌≡◌, Bool, true, false, List, [], ◌∷◌, ◌++◌, map, ℕ, ◌+◌, ◌-◌, ◌^◌, get_or, replicate, Some, None}
 use Rattle.workflow.specs.View.{Workflow}
+use Rattle.workflow.specs.declared.refusal.Refusal.{Refusal}
+use Rattle.workflow.specs.Refusal.{number}
 use Rattle.model.specs.declared.BufferedSignal.{BufferedSignal}
 use Rattle.model.specs.declared.event.Event.{Event}
 use Rattle.model.specs.declared.answer.Note.{Note}
@@ -72,11 +74,11 @@ seen_of (next accepted) =
       kept = kept_numbers state.invocation.error;
     }
 seen_of (wants node field from state) = record { place = node ∷ field ∷ from ∷ []; microsteps = 0; order = []; notes = []; endings = []; node_1 = []; result = []; kept = [] }
-seen_of (refused number item) = record { place = number ∷ item ∷ []; microsteps = 0; order = []; notes = []; endings = []; node_1 = []; result = []; kept = [] }
+seen_of (refused refusal item) = record { place = number refusal ∷ item ∷ []; microsteps = 0; order = []; notes = []; endings = []; node_1 = []; result = []; kept = [] }
 
 -- The answer to the last of a list of calls.
 unfoldable pub newest : List Entry → Answer
-newest [] = refused 0 0
+newest [] = refused Refusal.Invariant 0
 newest (x ∷ h) = x.said
 
 -- The record that stands after some calls, with 64 of signal 6 stored, of the sequence numbers 3 to 66; and the answer to a call on it.

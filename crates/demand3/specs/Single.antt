@@ -4,7 +4,7 @@ use Rattle.std.specs.Prelude.{◌≡◌, ℕ, ◌≤◌, Some, None}
 use Rattle.std.proofs.Math.Bool.{true}
 use Rattle.std.proofs.Math.ListN.{length}
 use Rattle.workflow.specs.View.{Workflow}
-use Rattle.model.specs.Code.{invariant}
+use Rattle.workflow.specs.Refusal.{number}
 use Rattle.snapshot.specs.Check.{consistent}
 use Rattle.kernel.specs.declared.Call.{Call}
 use Rattle.kernel.specs.Call.{Answer, next, wants, refused, Last}
@@ -15,7 +15,7 @@ use Rattle.demand3.specs.Tidy.{Sized, Tidies}
 abbrev pub Proper : Workflow → Answer → Type 0
 Proper f (next a) = record { checked : consistent f a.state ≡ true; few_notes : length a.notes ≤ 65; few_endings : length a.endings ≤ 65; sized : Sized a.state }
 Proper f (wants n i b w) = Tidies f w
-Proper f (refused k i) = k ≡ invariant → ⊥
+Proper f (refused r i) = number r ≡ 0 → ⊥
 
 pub record Single (f : Workflow) (c : Call) (count : ℕ) (x : Answer) : Type 0 where
   pub proper : Proper f x

@@ -28,7 +28,7 @@ module _ (sheet : Workflow) (limit : ℕ) (event : Event) (mappings : Mappings) 
   is_step state Take = 1
   is_step state Consume = by_found (first_signal state (node_of sheet state.position.node).signal)
   is_step state (Wants node field from) = 0
-  is_step state (Refuse number) = 0
+  is_step state (Refuse refusal) = 0
 
   -- The entries and takes that a machine comes to in its next moves, one that is refused with 26 included.
   unfoldable pub steps : (moves : ℕ) → Machine → ℕ

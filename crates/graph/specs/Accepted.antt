@@ -16,6 +16,8 @@ use Rattle.workflow.specs.View.{Workflow}
 use Rattle.workflow.specs.Lookup.{node_of, are, is_route, route_of, routed, is_limit, limit_of, is_declared, declares}
 use Rattle.workflow.specs.Sound.{Sound}
 use Rattle.workflow.specs.declared.Route.{Route}
+use Rattle.workflow.specs.declared.refusal.Refusal.{Refusal}
+use Rattle.workflow.specs.Refusal.{number}
 use Rattle.graph.specs.declared.Ceilings.{Ceilings}
 use Rattle.graph.specs.Lowest.{lowest, lowest_none}
 use Rattle.graph.specs.Form.{routes_at, formed_route, formed_limit, form}
@@ -41,11 +43,11 @@ pub rules : (f : Workflow) (c : Ceilings) → verdict f c ≡ Ok tt → Rules f
 unfolding verdict
 rules f c e =
     record {
-      formed = rule_holds 20 e (search stage depth 20);
-      rule_5 = rule_holds 5 e (search stage depth 20);
-      rule_8 = none_breaks 8 e (search stage depth 20);
-      rule_9 = none_breaks 9 e (search stage depth 20);
-      rule_12 = none_breaks 12 e (search stage depth 20);
+      formed = rule_holds Refusal.Form e (search stage depth 20);
+      rule_5 = rule_holds Refusal.Start e (search stage depth 20);
+      rule_8 = none_breaks Refusal.Activity e (search stage depth 20);
+      rule_9 = none_breaks Refusal.AwaitSignal e (search stage depth 20);
+      rule_12 = none_breaks Refusal.LoopLimits e (search stage depth 20);
     }
 
 module _ (f : Workflow) (r : Rules f) where
@@ -110,7 +112,7 @@ module _ (f : Workflow) (r : Rules f) where
       }
 
 -- No sheet is refused with 0 or 26.
-mild_if : (b : Bool) (n i : ℕ) {v : Verdict} → eqb n 0 ≡ false → eqb n 26 ≡ false → Mild v → Mild (when b then broken n i else v)
+mild_if : (b : Bool) (n : Refusal) (i : ℕ) {v : Verdict} → eqb (number n) 0 ≡ false → eqb (number n) 26 ≡ false → Mild v → Mild (when b then broken n i else v)
 unfolding when◌then◌else◌
 mild_if true n i x y m = mild_broken n i x y
 mild_if false n i x y m = m

@@ -7,6 +7,8 @@ use Rattle.laws.specs.Bool.{when◌then◌else◌}
 use Rattle.laws.specs.All.{All}
 use Rattle.laws.specs.In.{In, head, tail}
 use Rattle.workflow.specs.Code.{none}
+use Rattle.workflow.specs.declared.refusal.Refusal.{Refusal}
+use Rattle.workflow.specs.Refusal.{number}
 use Rattle.graph.specs.declared.Broken.{Broken}
 use Rattle.graph.specs.Verdict.{Verdict, broken, rule, rule_at, first_broken}
 
@@ -30,20 +32,20 @@ pub stage_fine : {v : Verdict} {vs : List Verdict} → first_broken vs ≡ Ok tt
 stage_fine e head = first_fine _ _ e
 stage_fine e (tail i) = stage_fine (rest_fine _ _ e) i
 
-pub rule_fine : (k : ℕ) (b : Bool) → rule k b ≡ Ok tt → b ≡ true
+pub rule_fine : (k : Refusal) (b : Bool) → rule k b ≡ Ok tt → b ≡ true
 unfolding when◌then◌else◌
 rule_fine k true e = refl
 rule_fine k false e = never e
 
-pub rule_at_fine : (k : ℕ) (x : Option ℕ) → rule_at k x ≡ Ok tt → x ≡ None
+pub rule_at_fine : (k : Refusal) (x : Option ℕ) → rule_at k x ≡ Ok tt → x ≡ None
 unfolding rule_at
 rule_at_fine k (Some i) e = never e
 rule_at_fine k None e = refl
 
-pub rule_holds : (k : ℕ) {b : Bool} {vs : List Verdict} → first_broken vs ≡ Ok tt → In (rule k b) vs → b ≡ true
+pub rule_holds : (k : Refusal) {b : Bool} {vs : List Verdict} → first_broken vs ≡ Ok tt → In (rule k b) vs → b ≡ true
 rule_holds k e i = rule_fine k _ (stage_fine e i)
 
-pub none_breaks : (k : ℕ) {x : Option ℕ} {vs : List Verdict} → first_broken vs ≡ Ok tt → In (rule_at k x) vs → x ≡ None
+pub none_breaks : (k : Refusal) {x : Option ℕ} {vs : List Verdict} → first_broken vs ≡ Ok tt → In (rule_at k x) vs → x ≡ None
 none_breaks k e i = rule_at_fine k _ (stage_fine e i)
 
 -- A BROKEN CHAIN answers with its first broken stage: those before it are fine.
@@ -53,7 +55,7 @@ pub record First (vs : List Verdict) (v : Verdict) : Type 0 where
   pub parts : vs ≡ before ++ (v ∷ after)
   pub fine : All (λ w. w ≡ Ok tt) before
 
-pub the_first : (vs : List Verdict) (k i : ℕ) → first_broken vs ≡ broken k i → First vs (broken k i)
+pub the_first : (vs : List Verdict) (k : Refusal) (i : ℕ) → first_broken vs ≡ broken k i → First vs (broken k i)
 unfolding first_broken
 the_first [] k i e = never (sym e)
 the_first (Ok tt ∷ vs) k i e =
@@ -63,27 +65,27 @@ the_first (Err x ∷ vs) k i e = record { before = []; after = vs; parts = ap (�
 
 -- THE NUMBERS. No stage refuses with 0, which is no rule of a sheet or a call, or with 26, the limit on microsteps.
 pub record Mild (v : Verdict) : Type 0 where
-  pub mild : (x : Broken) → v ≡ Err x → (x.rule ≡ 0 → ⊥) × (x.rule ≡ 26 → ⊥)
+  pub mild : (x : Broken) → v ≡ Err x → (number x.refusal ≡ 0 → ⊥) × (number x.refusal ≡ 26 → ⊥)
 
-abbrev rule_of : Verdict → ℕ
-rule_of (Ok tt) = 0
-rule_of (Err x) = x.rule
+abbrev number_of : Verdict → ℕ
+number_of (Ok tt) = 0
+number_of (Err x) = number x.refusal
 
 pub mild_fine : Mild (Ok tt)
 mild_fine = record { mild = λ x e. never (sym e) }
 
-pub mild_broken : (n i : ℕ) → eqb n 0 ≡ false → eqb n 26 ≡ false → Mild (broken n i)
+pub mild_broken : (n : Refusal) (i : ℕ) → eqb (number n) 0 ≡ false → eqb (number n) 26 ≡ false → Mild (broken n i)
 mild_broken n i a b =
-    let x = eqb-false n 0 a in
-    let y = eqb-false n 26 b in
-    record { mild = λ z e. let q : n ≡ z.rule = ap rule_of e in ((λ h. x (omega arith)), (λ h. y (omega arith))) }
+    let x = eqb-false (number n) 0 a in
+    let y = eqb-false (number n) 26 b in
+    record { mild = λ z e. let q : number n ≡ number z.refusal = ap number_of e in ((λ h. x (omega arith)), (λ h. y (omega arith))) }
 
-pub mild_rule : (n : ℕ) (b : Bool) → eqb n 0 ≡ false → eqb n 26 ≡ false → Mild (rule n b)
+pub mild_rule : (n : Refusal) (b : Bool) → eqb (number n) 0 ≡ false → eqb (number n) 26 ≡ false → Mild (rule n b)
 unfolding when◌then◌else◌
 mild_rule n true x y = mild_fine
 mild_rule n false x y = mild_broken n none x y
 
-pub mild_rule_at : (n : ℕ) (x : Option ℕ) → eqb n 0 ≡ false → eqb n 26 ≡ false → Mild (rule_at n x)
+pub mild_rule_at : (n : Refusal) (x : Option ℕ) → eqb (number n) 0 ≡ false → eqb (number n) 26 ≡ false → Mild (rule_at n x)
 unfolding rule_at
 mild_rule_at n (Some i) x y = mild_broken n i x y
 mild_rule_at n None x y = mild_fine
@@ -118,8 +120,8 @@ ends {v} {w} e = e ∙ alone w
     alone (Err x) = refl
 
 -- A rule that the code has passed holds.
-pub rule_passed : (k : ℕ) {b : Bool} → Ok tt ≡ rule k b → b ≡ true
+pub rule_passed : (k : Refusal) {b : Bool} → Ok tt ≡ rule k b → b ≡ true
 rule_passed k e = rule_fine k _ (sym e)
 
-pub rule_at_passed : (k : ℕ) {x : Option ℕ} → Ok tt ≡ rule_at k x → x ≡ None
+pub rule_at_passed : (k : Refusal) {x : Option ℕ} → Ok tt ≡ rule_at k x → x ≡ None
 rule_at_passed k e = rule_at_fine k _ (sym e)

@@ -6,6 +6,7 @@ use Rattle.laws.specs.First.{first}
 use Rattle.workflow.specs.Code.{none, format_0_1, reconcilable}
 use Rattle.workflow.specs.View.{Workflow}
 use Rattle.workflow.specs.Lookup.{is_0_2, policy_of}
+use Rattle.workflow.specs.declared.refusal.Refusal.{Refusal}
 use Rattle.graph.specs.declared.Ceilings.{Ceilings}
 use Rattle.graph.specs.declared.Broken.{Broken}
 use Rattle.graph.specs.Lowest.{lowest}
@@ -17,16 +18,16 @@ use Rattle.graph.specs.Sets.{breaks_14, breaks_15}
 abbrev pub Verdict : Type 0
 Verdict = Result (Unit {0}) Broken
 
-abbrev pub broken : (rule item : ℕ) → Verdict
-broken rule item = Err (record { rule = rule; item = item })
+abbrev pub broken : Refusal → (item : ℕ) → Verdict
+broken refusal item = Err (record { refusal = refusal; item = item })
 
 -- A rule of the whole sheet or of a call, and one whose item is the lowest that breaks it.
-abbrev pub rule : (number : ℕ) → (holds : Bool) → Verdict
-rule number holds = when holds then Ok tt else broken number none
+abbrev pub rule : Refusal → (holds : Bool) → Verdict
+rule refusal holds = when holds then Ok tt else broken refusal none
 
-unfoldable pub rule_at : (number : ℕ) → (broken_by : Option ℕ) → Verdict
-rule_at number (Some item) = broken number item
-rule_at number None = Ok tt
+unfoldable pub rule_at : Refusal → (broken_by : Option ℕ) → Verdict
+rule_at refusal (Some item) = broken refusal item
+rule_at refusal None = Ok tt
 
 -- The first stage that is broken.
 unfoldable pub first_broken : List Verdict → Verdict
@@ -37,8 +38,8 @@ first_broken (Err first ∷ later) = Err first
 -- Per action: 16 (reconcilable), then 7.
 abbrev pub action_verdict : Workflow → Ceilings → (action : ℕ) → Verdict
 action_verdict sheet ceilings action =
-    when eqb (policy_of sheet action).effect reconcilable then broken 16 action else
-    when breaks_7 sheet ceilings.attempts action then broken 7 action else
+    when eqb (policy_of sheet action).effect reconcilable then broken Refusal.Reconcilable action else
+    when breaks_7 sheet ceilings.attempts action then broken Refusal.ActionPolicy action else
     Ok tt
 
 unfoldable pub actions_verdict : Workflow → Ceilings → Verdict
@@ -49,29 +50,29 @@ actions_verdict sheet ceilings =
 -- The stages, in the order of document 01: the form, what a formed sheet is held to, its graph, and where its routes lead.
 abbrev pub reach_stages : Workflow → List Verdict
 reach_stages sheet =
-    rule_at 14 (lowest sheet.node_count (breaks_14 sheet))
-    ∷ rule_at 15 (lowest sheet.node_count (breaks_15 sheet))
+    rule_at Refusal.Unreached (lowest sheet.node_count (breaks_14 sheet))
+    ∷ rule_at Refusal.Unending (lowest sheet.node_count (breaks_15 sheet))
     ∷ []
 
 abbrev pub graph_stages : Workflow → List Verdict
 graph_stages sheet =
-    rule_at 8 (lowest sheet.node_count (breaks_8 sheet))
-    ∷ rule_at 9 (lowest sheet.node_count (breaks_9 sheet))
-    ∷ rule_at 12 (lowest sheet.node_count (breaks_12 sheet))
+    rule_at Refusal.Activity (lowest sheet.node_count (breaks_8 sheet))
+    ∷ rule_at Refusal.AwaitSignal (lowest sheet.node_count (breaks_9 sheet))
+    ∷ rule_at Refusal.LoopLimits (lowest sheet.node_count (breaks_12 sheet))
     ∷ reach_stages sheet
 
 abbrev pub formed_stages : Workflow → Ceilings → List Verdict
 formed_stages sheet ceilings =
-    rule 1 (eqb sheet.format format_0_1 or is_0_2 sheet)
-    ∷ rule_at 1 (lowest sheet.node_count (breaks_1 sheet))
-    ∷ rule 3 (within ceilings.nodes sheet.node_count)
-    ∷ rule 5 (ltb sheet.start sheet.node_count)
-    ∷ rule 6 (within ceilings.visits sheet.max_visits_per_node and within ceilings.activations sheet.max_activations)
+    rule Refusal.Format (eqb sheet.format format_0_1 or is_0_2 sheet)
+    ∷ rule_at Refusal.Format (lowest sheet.node_count (breaks_1 sheet))
+    ∷ rule Refusal.Nodes (within ceilings.nodes sheet.node_count)
+    ∷ rule Refusal.Start (ltb sheet.start sheet.node_count)
+    ∷ rule Refusal.Limits (within ceilings.visits sheet.max_visits_per_node and within ceilings.activations sheet.max_activations)
     ∷ actions_verdict sheet ceilings
     ∷ graph_stages sheet
 
 abbrev pub stages : Workflow → Ceilings → List Verdict
-stages sheet ceilings = rule 20 (form sheet) ∷ formed_stages sheet ceilings
+stages sheet ceilings = rule Refusal.Form (form sheet) ∷ formed_stages sheet ceilings
 
 unfoldable pub verdict : Workflow → Ceilings → Verdict
 verdict sheet ceilings = first_broken (stages sheet ceilings)

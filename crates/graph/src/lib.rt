@@ -15,6 +15,7 @@ ghost use Rattle.graph.specs.Stages.{Started};
 
 use workflow::code;
 use workflow::layout::NUMBERS;
+use workflow::refusal::Refusal;
 
 // The largest numbers that a sheet may ask for.
 #[derive(Clone, Copy)]
@@ -25,32 +26,32 @@ pub struct Ceilings {
     pub attempts: u32,
 }
 
-// A broken rule with its item.
+// What a sheet or a call is refused with: a rule and its item.
 #[derive(Clone, Copy, Debug, PartialEq, Eq)]
 pub struct Broken {
-    pub rule: u32,
+    pub refusal: Refusal,
     pub item: u32,
 }
 
 // A rule of the whole sheet, or of the call.
-pub fn rule(number: u32, holds: bool) -> Result<(), Broken>
-    ensures { result ≡ rule number holds }
+pub fn rule(refusal: Refusal, holds: bool) -> Result<(), Broken>
+    ensures { result ≡ rule refusal holds }
 {
     if holds {
         return Ok(());
     }
     Err(Broken {
-        rule: number,
+        refusal,
         item: code::NONE,
     })
 }
 
 // A rule whose item is the lowest node that breaks it.
-fn rule_at(number: u32, found: Option<u32>) -> Result<(), Broken>
-    ensures { result ≡ rule_at number found }
+fn rule_at(refusal: Refusal, found: Option<u32>) -> Result<(), Broken>
+    ensures { result ≡ rule_at refusal found }
 {
     match found {
-        Some(item) => Err(Broken { rule: number, item }),
+        Some(item) => Err(Broken { refusal, item }),
         None => Ok(()),
     }
 }

@@ -12,6 +12,9 @@ use Rattle.laws.specs.Rows.{span}
 use Rattle.laws.specs.Splice.{splice}
 use Rattle.laws.specs.Listing.{padded}
 use Rattle.workflow.specs.View.{workflow}
+use Rattle.workflow.specs.declared.refusal.Refusal.{Refusal}
+use Rattle.workflow.specs.Refusal.{number, refusal_of}
+use Rattle.laws.specs.First.{first}
 use Rattle.model.specs.declared.State.{State}
 use Rattle.model.specs.declared.answer.Order.{Order}
 use Rattle.model.specs.declared.answer.Answer as code
@@ -48,7 +51,7 @@ length_state : (a : code.Answer) (s : State) → Whole s → length (state_numbe
 unfolding state_numbers
 length_state (code.Answer.Next order microsteps) s h = length_record s h
 length_state (code.Answer.Wants node field from) s h = length_record s h
-length_state (code.Answer.Refused number item) s h = length-replicate {A = ℕ} record_length 0
+length_state (code.Answer.Refused refusal item) s h = length-replicate {A = ℕ} record_length 0
 
 -- A DECISION whose arrays are whole.
 module _ (d : Decision) (noted : length d.notes ≡ layout.notes) (ended : length d.endings ≡ layout.endings) where
@@ -193,31 +196,60 @@ module _ (node field from : ℕ) (state : State) (f : Fits state) where
       let w = want_numbers in
       rw (w.0, w.1, w.2, w.3, want_record, record_back_of state f)
 
-module _ (number item : ℕ) where
-  refusal_numbers : (at (decision_numbers (decision_of (refused number item))) layout.answer_kind ≡ 3) × (at (decision_numbers (decision_of (refused number item))) layout.answer_refusal_number ≡ number) × (at (decision_numbers (decision_of (refused number item))) layout.answer_refusal_item ≡ item)
+-- A refusal is read back from its number.
+refusal_read : (refusal : Refusal) → refusal_of (number refusal) ≡ refusal
+unfolding refusal_of first when◌then◌else◌
+refusal_read Refusal.Invariant = refl
+refusal_read Refusal.Format = refl
+refusal_read Refusal.Nodes = refl
+refusal_read Refusal.Start = refl
+refusal_read Refusal.Limits = refl
+refusal_read Refusal.ActionPolicy = refl
+refusal_read Refusal.Activity = refl
+refusal_read Refusal.AwaitSignal = refl
+refusal_read Refusal.LoopLimits = refl
+refusal_read Refusal.Unreached = refl
+refusal_read Refusal.Unending = refl
+refusal_read Refusal.Reconcilable = refl
+refusal_read Refusal.Form = refl
+refusal_read Refusal.EventUnfit = refl
+refusal_read Refusal.OutOfSequence = refl
+refusal_read Refusal.NotStarted = refl
+refusal_read Refusal.StartedBefore = refl
+refusal_read Refusal.Inconsistent = refl
+refusal_read Refusal.MicrostepsExceeded = refl
+refusal_read Refusal.NoRetry = refl
+refusal_read Refusal.Unencodable = refl
+refusal_read Refusal.CommandsExceeded = refl
+refusal_read Refusal.OperationsExceeded = refl
+refusal_read Refusal.BadBytes = refl
+refusal_read Refusal.ShortBuffer = refl
+
+module _ (refusal : Refusal) (item : ℕ) where
+  refusal_numbers : (at (decision_numbers (decision_of (refused refusal item))) layout.answer_kind ≡ 3) × (at (decision_numbers (decision_of (refused refusal item))) layout.answer_refusal_number ≡ number refusal) × (at (decision_numbers (decision_of (refused refusal item))) layout.answer_refusal_item ≡ item)
   unfolding decision_numbers decision_of answer_numbers
   refusal_numbers = (refl, refl, refl)
 
-  refusal_length : length (decision_numbers (decision_of (refused number item))) ≡ answer_length
+  refusal_length : length (decision_numbers (decision_of (refused refusal item))) ≡ answer_length
   unfolding decision_of state_numbers
-  refusal_length = let d = decision_of (refused number item) in length_decision d (none_noted d refl refl) (none_ended d refl refl) (length-replicate {A = ℕ} record_length 0)
+  refusal_length = let d = decision_of (refused refusal item) in length_decision d (none_noted d refl refl) (none_ended d refl refl) (length-replicate {A = ℕ} record_length 0)
 
-  refusal_back : answer_of_numbers (decision_numbers (decision_of (refused number item))) ≡ refused number item
+  refusal_back : answer_of_numbers (decision_numbers (decision_of (refused refusal item))) ≡ refused refusal item
   unfolding answer_of_numbers when◌then◌else◌
   refusal_back =
       let w = refusal_numbers in
-      rw (w.0, w.1, w.2)
+      rw (w.0, w.1, w.2, refusal_read refusal)
 
 -- EVERY ANSWER that fits is read back from its numbers, of which there are as many as an answer has.
 pub answer_back : (a : Answer) → AnswerFits a → answer_of_numbers (decision_numbers (decision_of a)) ≡ a
 answer_back (next x) f = next_back x f
 answer_back (wants node field from state) f = want_back node field from state f
-answer_back (refused number item) f = refusal_back number item
+answer_back (refused refusal item) f = refusal_back refusal item
 
 pub answer_numbers_length : (a : Answer) → AnswerFits a → length (decision_numbers (decision_of a)) ≡ answer_length
 answer_numbers_length (next x) f = next_length x f
 answer_numbers_length (wants node field from state) f = want_width node field from state f
-answer_numbers_length (refused number item) f = refusal_length number item
+answer_numbers_length (refused refusal item) f = refusal_length refusal item
 
 -- THE BUFFER'S BEGINNING is what was written there.
 module _ (buffer numbers : List ℕ) where

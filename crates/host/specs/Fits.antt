@@ -140,4 +140,4 @@ pub record AcceptedFits (accepted : Accepted) : Type 0 where
 abbrev pub AnswerFits : Answer → Type 0
 AnswerFits (next accepted) = AcceptedFits accepted
 AnswerFits (wants node field from state) = Fits state
-AnswerFits (refused number item) = Unit {0}
+AnswerFits (refused refusal item) = Unit {0}

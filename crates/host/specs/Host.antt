@@ -4,6 +4,7 @@ use Rattle.laws.specs.Bool.{when◌then◌else◌, ◌and◌}
 use Rattle.laws.specs.Splice.{splice}
 use Rattle.workflow.specs.Layout.{numbers as sheet_length}
 use Rattle.workflow.specs.View.{workflow}
+use Rattle.workflow.specs.Refusal.{number}
 use Rattle.graph.specs.declared.Ceilings.{Ceilings}
 use Rattle.graph.specs.Verdict.{verdict, Verdict}
 use Rattle.kernel.specs.declared.Decision.{Decision}
@@ -52,7 +53,7 @@ verdict_receipt sheet_size room =
 
 unfoldable pub verdict_numbers : Verdict → List ℕ
 verdict_numbers (Ok tt) = 0 ∷ 0 ∷ []
-verdict_numbers (Err broken) = broken.rule ∷ broken.item ∷ []
+verdict_numbers (Err broken) = number broken.refusal ∷ broken.item ∷ []
 
 unfoldable pub judged : (sheet : List ℕ) (sheet_size : ℕ) → Ceilings → (buffer : List ℕ) → List ℕ
 judged sheet sheet_size ceilings buffer =

@@ -2,6 +2,7 @@
 use Rattle.std.specs.Prelude.{List, ℕ, ◌+◌, drop, eqb, Option, Some, None}
 use Rattle.laws.specs.Bool.{when◌then◌else◌}
 use Rattle.laws.specs.Rows.{span}
+use Rattle.workflow.specs.Refusal.{refusal_of}
 use Rattle.model.specs.declared.answer.ScheduleActivity.{ScheduleActivity}
 use Rattle.model.specs.declared.answer.RetryActivity.{RetryActivity}
 use Rattle.model.specs.declared.answer.Order.{Order}
@@ -72,4 +73,4 @@ answer_of_numbers numbers =
     when eqb (at numbers layout.answer_kind) 1 then next (accepted_from numbers) else
     when eqb (at numbers layout.answer_kind) 2 then
     wants (at numbers layout.answer_want_node) (at numbers layout.answer_want_field) (at numbers layout.answer_want_from) (record_of (drop layout.answer_record numbers))
-    else refused (at numbers layout.answer_refusal_number) (at numbers layout.answer_refusal_item)
+    else refused (refusal_of (at numbers layout.answer_refusal_number)) (at numbers layout.answer_refusal_item)

@@ -63,7 +63,7 @@ event_numbers event =
 unfoldable pub state_numbers : Answer → State → List ℕ
 state_numbers (Answer.Next order microsteps) state = record_numbers state
 state_numbers (Answer.Wants node field from) state = record_numbers state
-state_numbers (Answer.Refused number item) state = replicate record_length 0
+state_numbers (Answer.Refused refusal item) state = replicate record_length 0
 
 unfoldable pub decision_numbers : Decision → List ℕ
 decision_numbers decision =

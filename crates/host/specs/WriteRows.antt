@@ -29,7 +29,7 @@ pub record RowsWritten {A : Type 0} (f : A → List ℕ) (d : A) (xs : List A) (
 abbrev pub is_refused : code.Answer → Bool
 is_refused (code.Answer.Next order microsteps) = false
 is_refused (code.Answer.Wants node field from) = false
-is_refused (code.Answer.Refused number item) = true
+is_refused (code.Answer.Refused refusal item) = true
 
 -- A decision's arrays are empty past their counts.
 pub record Counted (d : Decision) : Type 0 where

@@ -111,7 +111,7 @@ fn verdict_numbers(verdict: Result<(), Broken>) -> [u32; layout::VERDICT]
 {
     match verdict {
         Ok(()) => [0, 0],
-        Err(Broken { rule, item }) => [rule, item],
+        Err(Broken { refusal, item }) => [refusal.number(), item],
     }
 }
 

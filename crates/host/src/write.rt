@@ -316,7 +316,7 @@ fn is_refused(answer: Answer) -> bool
             field: _,
             from: _,
         } => false,
-        Answer::Refused { number: _, item: _ } => true,
+        Answer::Refused { .. } => true,
     }
 }
 

@@ -3,6 +3,8 @@ use Rattle.std.specs.Prelude.{◌≡◌, Bool, true, false, not, List, ℕ, ◌+
 use Rattle.laws.specs.Bool.{when◌then◌else◌}
 use Rattle.laws.specs.Splice.{splice}
 use Rattle.workflow.specs.Layout.{numbers as sheet_length}
+use Rattle.workflow.specs.Refusal.{number}
+use Rattle.workflow.specs.declared.refusal.Refusal.{Refusal}
 use Rattle.host.specs.Layout as layout
 use Rattle.host.specs.Read.{at, narrow, record_fits}
 use Rattle.host.specs.Write.{decision_numbers}
@@ -18,16 +20,16 @@ use Rattle.in_bytes.specs.Answer.{answer}
 
 -- The refusals of bytes, and the item of a refusal that names none.
 abbrev pub bad_bytes : ℕ
-bad_bytes = 31
+bad_bytes = number Refusal.BadBytes
 
 abbrev pub short : ℕ
-short = 32
+short = number Refusal.ShortBuffer
 
 abbrev pub bad_form : ℕ
-bad_form = 20
+bad_form = number Refusal.Form
 
 abbrev pub bad_run : ℕ
-bad_run = 25
+bad_run = number Refusal.Inconsistent
 
 abbrev pub no_item : ℕ
 no_item = 255

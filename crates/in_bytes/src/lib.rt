@@ -11,6 +11,7 @@ pub mod structs;
 ghost use Rattle.std.specs.Prelude.{◌≡◌, ◌≤◌, length};
 ghost use Rattle.laws.specs.Splice.{splice};
 ghost use Rattle.workflow.specs.Layout.{numbers as sheet_length};
+ghost use Rattle.workflow.specs.Refusal.{number};
 ghost use Rattle.in_bytes.specs.Boundary.{no_item, packed, returned, left, write_sheet, write_run, write_event, read_sheet, read_run, read_event, said, told, decide, decide_on, is_said, said_in, Of64Bits, call_bytes, call_bytes_on};
 ghost use Rattle.in_bytes.specs.Tests.{ends_at};
 
@@ -23,16 +24,9 @@ use codec::numbers::{Place, longs_size, read_longs, write_longs};
 use host::read::run_fits;
 use host::{kuxhoveza_transition, layout};
 use workflow::layout::NUMBERS;
+use workflow::refusal::Refusal;
 
-// Refusals of this crate. Their item is 255.
-const BAD_FORM: u64 = 20;
-
-const BAD_RUN: u64 = 25;
-
-const BAD_BYTES: u64 = 31;
-
-const SHORT: u64 = 32;
-
+// The item of a refusal that names none.
 const NO_ITEM: u64 = 255;
 
 const HALF: u64 = 0x1_0000_0000;
@@ -44,10 +38,10 @@ fn packed(number: u64, rest: u64) -> u64
     number % HALF + HALF * (rest % HALF)
 }
 
-fn refused(number: u64) -> u64
-    ensures { result ≡ packed number no_item }
+fn refused(refusal: Refusal) -> u64
+    ensures { result ≡ packed (number refusal) no_item }
 {
-    packed(number, NO_ITEM)
+    packed(u64::from(refusal.number()), NO_ITEM)
 }
 
 fn done(size: usize) -> u64
@@ -83,11 +77,11 @@ pub fn kuxhoveza_write_sheet(sheet: &[u32], out: &mut [u8]) -> u64
         return receipt(layout::BAD_SHEET_LENGTH);
     }
     if !sheet_tidy(sheet) {
-        return refused(BAD_FORM);
+        return refused(Refusal::Form);
     }
     let size = sheet_size(sheet);
     if out.len() < size {
-        return refused(SHORT);
+        return refused(Refusal::ShortBuffer);
     }
     write_sheet(out, sheet);
     done(size)
@@ -114,7 +108,7 @@ pub fn kuxhoveza_read_sheet(bytes: &[u8], sheet: &mut [u32]) -> u64
     let mut numbers = [0u32; NUMBERS];
     let place = read_sheet(bytes, 0, &mut numbers);
     if !ends(place, bytes) {
-        return refused(BAD_BYTES);
+        return refused(Refusal::BadBytes);
     }
     copy_numbers(sheet, &numbers);
     done(0)
@@ -133,11 +127,11 @@ pub fn kuxhoveza_write_run(run: &[u64], out: &mut [u8]) -> u64
         return receipt(layout::BAD_RECORD);
     }
     if !run_tidy(run, 0) {
-        return refused(BAD_RUN);
+        return refused(Refusal::Inconsistent);
     }
     let size = run_size(run, 0);
     if out.len() < size {
-        return refused(SHORT);
+        return refused(Refusal::ShortBuffer);
     }
     write_run(out, 0, run, 0);
     done(size)
@@ -164,10 +158,10 @@ pub fn kuxhoveza_read_run(bytes: &[u8], run: &mut [u64]) -> u64
     let mut numbers = [0u64; layout::RECORD];
     let place = read_run(bytes, 0, &mut numbers);
     if !ends(place, bytes) {
-        return refused(BAD_BYTES);
+        return refused(Refusal::BadBytes);
     }
     if !tidy_fits(&numbers) {
-        return refused(BAD_BYTES);
+        return refused(Refusal::BadBytes);
     }
     copy_longs(run, &numbers);
     done(0)
@@ -187,7 +181,7 @@ pub fn kuxhoveza_write_event(event: &[u64], out: &mut [u8]) -> u64
     }
     let size = longs_size(event, 0, layout::EVENT);
     if out.len() < size {
-        return refused(SHORT);
+        return refused(Refusal::ShortBuffer);
     }
     write_longs(out, 0, event, 0, layout::EVENT);
     done(size)
@@ -203,10 +197,10 @@ pub fn kuxhoveza_read_event(bytes: &[u8], event: &mut [u64]) -> u64
     let mut numbers = [0u64; layout::EVENT];
     let place = read_longs(bytes, 0, &mut numbers, 0, layout::EVENT);
     if !ends(place, bytes) {
-        return refused(BAD_BYTES);
+        return refused(Refusal::BadBytes);
     }
     if !event_fits(&numbers) {
-        return refused(BAD_BYTES);
+        return refused(Refusal::BadBytes);
     }
     copy_longs(event, &numbers);
     done(0)
@@ -244,7 +238,7 @@ fn answered(answer: &[u64; layout::ANSWER], out: &mut [u8]) -> u64
     }
     let size = answer_size(answer);
     if out.len() < size {
-        return refused(SHORT);
+        return refused(Refusal::ShortBuffer);
     }
     write_answer(out, answer);
     done(size)
@@ -259,7 +253,7 @@ pub fn kuxhoveza_call(bytes: &[u8], out: &mut [u8]) -> u64
     if decide(bytes, &mut answer) {
         return answered(&answer, out);
     }
-    refused(BAD_BYTES)
+    refused(Refusal::BadBytes)
 }
 
 // The same on a sheet in numbers: the bytes are those of a call without its sheet.
@@ -300,5 +294,5 @@ pub fn kuxhoveza_call_on(
     if decide_on(sheet, bytes, &mut answer) {
         return answered(&answer, out);
     }
-    refused(BAD_BYTES)
+    refused(Refusal::BadBytes)
 }

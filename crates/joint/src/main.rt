@@ -165,7 +165,9 @@ impl fmt::Display for Shown<'_> {
                 Ok(())
             }
             Answer::Wants { node, field, .. } => writeln!(f, "wants field {field} of node {node}"),
-            Answer::Refused { number, item } => writeln!(f, "refused with {number}, item {item}"),
+            Answer::Refused { refusal, item } => {
+                writeln!(f, "refused with {}, item {item}", refusal.number())
+            }
         }
     }
 }

@@ -10,14 +10,14 @@ use Rattle.model.specs.declared.answer.Ending.{Ending}
 use Rattle.model.specs.declared.moves.Next.{Next}
 use Rattle.model.specs.declared.moves.Next.TheVariants.{Rest, Enter, Take, Consume, Wants, Refuse}
 use Rattle.workflow.specs.Code.{none}
-use Rattle.model.specs.Code.{run_started, invariant}
+use Rattle.workflow.specs.declared.refusal.Refusal.{Refusal}
+use Rattle.model.specs.Code.{run_started}
 use Rattle.model.specs.Record.{fresh}
 use Rattle.model.specs.Store.{stored, leaves_over, left_over, emptied}
 use Rattle.snapshot.specs.Check.{consistent}
 use Rattle.snapshot.specs.EventCheck.{event_fits}
 use Rattle.kernel.specs.declared.Limits.{Limits}
 use Rattle.kernel.specs.declared.Call.{Call}
-use Rattle.kernel.specs.Code.{event_unfit, out_of_sequence, not_started, started_before, inconsistent, commands_exceeded, operations_exceeded}
 use Rattle.kernel.specs.Drive.{Machine, driven}
 
 -- THE RECORD THAT STANDS, if there is one.
@@ -35,14 +35,14 @@ abbrev pub is_start : (kind : ℕ) → Bool
 is_start kind = eqb kind run_started
 
 unfoldable pub start_stage : (kind sequence : ℕ) → Verdict
-start_stage kind sequence = first_broken (rule not_started (is_start kind) ∷ rule out_of_sequence (eqb sequence 1) ∷ [])
+start_stage kind sequence = first_broken (rule Refusal.NotStarted (is_start kind) ∷ rule Refusal.OutOfSequence (eqb sequence 1) ∷ [])
 
 unfoldable pub next_stage : Workflow → State → (kind sequence : ℕ) → Verdict
 next_stage sheet state kind sequence =
     first_broken (
-    rule started_before (not (is_start kind))
-    ∷ rule inconsistent (consistent sheet state)
-    ∷ rule out_of_sequence (eqb sequence (state.last_sequence + 1))
+    rule Refusal.StartedBefore (not (is_start kind))
+    ∷ rule Refusal.Inconsistent (consistent sheet state)
+    ∷ rule Refusal.OutOfSequence (eqb sequence (state.last_sequence + 1))
     ∷ []
     )
 
@@ -54,7 +54,7 @@ unfoldable pub admission : Workflow → Last → Call → Verdict
 admission sheet standing call =
     first_broken (
     verdict sheet call.ceilings
-    ∷ rule event_unfit (event_fits call.event call.mappings)
+    ∷ rule Refusal.EventUnfit (event_fits call.event call.mappings)
     ∷ record_stage sheet call standing
     ∷ []
     )
@@ -64,7 +64,7 @@ abbrev pub given : Last → Call → State
 given None call = fresh call.event.input
 given (Some state) call = state
 
--- THE ANSWER is one of three: a next record with its order, notes and endings; a want of one mapping value, with the record at that moment; a refusal with its number and item.
+-- THE ANSWER is one of three: a next record with its order, notes and endings; a want of one mapping value, with the record at that moment; a refusal with its item.
 pub record Accepted : Type 0 where
   pub state : State
   pub order : Option Order
@@ -75,7 +75,7 @@ pub record Accepted : Type 0 where
 pub data Answer : Type 0 where
   next : Accepted → Answer
   wants : (node field from : ℕ) → State → Answer
-  refused : (number item : ℕ) → Answer
+  refused : Refusal → (item : ℕ) → Answer
 
 -- THE CLOSE (document 02, T-02): a run that has ended leaves over the signals that are still stored. They are listed behind the other endings, oldest first, and the store is
 -- empty. None is counted or noted for it.
@@ -104,15 +104,15 @@ accepted_of machine = record { state = machine.state; order = machine.order; not
 
 -- A driver that runs out of moves: never (Bounds).
 abbrev pub unfinished : Answer
-unfinished = refused invariant none
+unfinished = refused Refusal.Invariant none
 
 unfoldable pub finish_by : Next → Limits → Machine → Answer
 finish_by Rest limits machine =
-    when ltb limits.commands (orders machine.order) then refused commands_exceeded none else
-    when ltb limits.operations machine.operations then refused operations_exceeded none else
+    when ltb limits.commands (orders machine.order) then refused Refusal.CommandsExceeded none else
+    when ltb limits.operations machine.operations then refused Refusal.OperationsExceeded none else
     next (accepted_of (closed machine))
 finish_by (Wants node field from) limits machine = wants node field from machine.state
-finish_by (Refuse number) limits machine = refused number none
+finish_by (Refuse refusal) limits machine = refused refusal none
 finish_by (Enter node from) limits machine = unfinished
 finish_by Take limits machine = unfinished
 finish_by Consume limits machine = unfinished
@@ -122,7 +122,7 @@ finish limits machine = finish_by machine.next limits machine
 
 -- THE CALL: the first broken stage is the answer, else the step is done and finished.
 unfoldable pub transition_by : Verdict → Workflow → Last → Call → Answer
-transition_by (Err broken) sheet standing call = refused broken.rule broken.item
+transition_by (Err broken) sheet standing call = refused broken.refusal broken.item
 transition_by (Ok tt) sheet standing call = finish call.limits (driven sheet call.limits.microsteps call.event call.mappings (given standing call))
 
 unfoldable pub transition : Workflow → Last → Call → Answer

@@ -6,9 +6,9 @@ use Rattle.std.proofs.Math.Path.{refl, ap}
 use Rattle.std.proofs.Common.{arith, leb-false}
 use Rattle.laws.specs.Bool.{when◌then◌else◌, either}
 use Rattle.workflow.specs.View.{Workflow}
+use Rattle.workflow.specs.declared.refusal.Refusal.{Refusal}
 use Rattle.model.specs.declared.ErrorInfo.{ErrorInfo}
 use Rattle.model.specs.declared.Output.{Output}
-use Rattle.model.specs.declared.ErrorInfo.{ErrorInfo}
 use Rattle.model.specs.declared.BufferedSignal.{BufferedSignal}
 use Rattle.model.specs.declared.State.{State}
 use Rattle.model.specs.declared.event.Event.{Event}
@@ -113,7 +113,7 @@ module _ (f : Workflow) where
   unfolding evaluate without_value terminate
   entered_evaluate (Ok x) s n i b r k g = g x
   entered_evaluate (Err (Fault c d)) s n i b r k g = entered_as _ Rest (omega arith)
-  entered_evaluate (Err Unencodable) s n i b r k g = entered_as s (Refuse 28) (omega arith)
+  entered_evaluate (Err Unencodable) s n i b r k g = entered_as s (Refuse Refusal.Unencodable) (omega arith)
   entered_evaluate (Err Lacking) s n i b r k g = entered_as s (Wants n i b) (omega arith)
 
   entered_arrive : (s : State) (n b : ℕ) (m : Mappings) → Entered s.signal_count (arrive f s n b m)
@@ -132,7 +132,7 @@ module _ (f : Workflow) where
   pub entered : (s : State) (n b : ℕ) (m : Mappings) → Entered s.signal_count (enter f s n b m)
   unfolding enter
   entered s n b m =
-      entered_if _ (entered_as s (Refuse 0) (omega arith)) (entered_if _ (entered_terminate s _) (entered_if _ (entered_terminate s _) (entered_arrive _ n b m)))
+      entered_if _ (entered_as s (Refuse Refusal.Invariant) (omega arith)) (entered_if _ (entered_terminate s _) (entered_if _ (entered_terminate s _) (entered_arrive _ n b m)))
 
   -- ROUTING.
   spares_if : {h : ℕ} (b : Bool) {x y : Move} → Spares h x → Spares h y → Spares h (when b then x else y)
@@ -145,7 +145,7 @@ module _ (f : Workflow) where
   spares_follow : (s : State) (n : ℕ) (x : Option ℕ) → Spares s.signal_count (follow_to f s n x)
   unfolding follow_to
   spares_follow s n (Some t) = spares_as s (Enter t n) (omega arith)
-  spares_follow s n None = spares_as s (Refuse 0) (omega arith)
+  spares_follow s n None = spares_as s (Refuse Refusal.Invariant) (omega arith)
 
   spares_limited : (s : State) (n o : ℕ) (x : Option ℕ) → Spares s.signal_count (route_limited f s n o x)
   unfolding route_limited
@@ -155,7 +155,7 @@ module _ (f : Workflow) where
 
   spares_route : (s : State) (o : ℕ) (x : Output) → Spares s.signal_count (route f s o x)
   unfolding route
-  spares_route s o x = spares_if _ (spares_as s (Refuse 0) (omega arith)) (spares_limited _ _ o _)
+  spares_route s o x = spares_if _ (spares_as s (Refuse Refusal.Invariant) (omega arith)) (spares_limited _ _ o _)
 
   -- TAKING. What comes where the signal does not route is k.
   costs_take_by : (y : Option ℕ) (s : State) (x : BufferedSignal) (k : Next) → cost k s.signal_count ≤ 1 + 2 * s.signal_count
@@ -180,7 +180,7 @@ module _ (f : Workflow) where
   spares_retry : (s : State) (d : ℕ) → Spares s.signal_count (retry f s d)
   unfolding retry
   spares_retry s d =
-      spares_if _ (spares_as _ (Refuse 27) (omega arith)) (spares_if _ (spares_as _ (Refuse 27) (omega arith)) (spares_as _ Rest (omega arith)))
+      spares_if _ (spares_as _ (Refuse Refusal.NoRetry) (omega arith)) (spares_if _ (spares_as _ (Refuse Refusal.NoRetry) (omega arith)) (spares_as _ Rest (omega arith)))
 
   spares_fail : (s : State) (k d : ℕ) (p : Bool) → Spares s.signal_count (fail_invocation f s k d p)
   unfolding fail_invocation stick

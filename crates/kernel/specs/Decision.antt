@@ -25,4 +25,4 @@ decision notes endings answer state =
 unfoldable pub decision_of : Answer → Decision
 decision_of (next accepted) = decision accepted.notes accepted.endings (code.Answer.Next accepted.order accepted.microsteps) accepted.state
 decision_of (wants node field from state) = decision [] [] (code.Answer.Wants node field from) state
-decision_of (refused number item) = decision [] [] (code.Answer.Refused number item) (fresh 0)
+decision_of (refused refusal item) = decision [] [] (code.Answer.Refused refusal item) (fresh 0)

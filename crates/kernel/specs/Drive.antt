@@ -4,6 +4,7 @@ use Rattle.laws.specs.Bool.{when◌then◌else◌}
 use Rattle.laws.specs.Settle.{settle}
 use Rattle.workflow.specs.View.{Workflow}
 use Rattle.workflow.specs.Lookup.{node_of}
+use Rattle.workflow.specs.declared.refusal.Refusal.{Refusal}
 use Rattle.model.specs.declared.State.{State}
 use Rattle.model.specs.declared.event.Event.{Event}
 use Rattle.model.specs.declared.event.Mapping.{Mapping}
@@ -18,7 +19,6 @@ use Rattle.model.specs.Store.{first_signal, signal_at, removed}
 use Rattle.model.specs.Step as step
 use Rattle.model.specs.Step.{still, arrival, enter}
 use Rattle.machine.specs.Events.{apply}
-use Rattle.kernel.specs.Code.{microsteps_exceeded}
 
 -- What a call works on: the record so far and what comes next, what it has put out, and what it has counted.
 pub record Machine : Type 0 where
@@ -59,7 +59,7 @@ module _ (sheet : Workflow) (limit : ℕ) (event : Event) (mappings : Mappings) 
   over_limit machine =
       record {
         state = machine.state;
-        next = Refuse microsteps_exceeded;
+        next = Refuse Refusal.MicrostepsExceeded;
         order = machine.order;
         notes = machine.notes;
         endings = machine.endings;
@@ -86,7 +86,7 @@ module _ (sheet : Workflow) (limit : ℕ) (event : Event) (mappings : Mappings) 
   advance_by Take machine = counting machine (step.take sheet machine.state (arrival event) Rest)
   advance_by Consume machine = consume machine
   advance_by (Wants node field from) machine = machine
-  advance_by (Refuse number) machine = machine
+  advance_by (Refuse refusal) machine = machine
 
   abbrev pub advance : Machine → Machine
   advance machine = advance_by machine.next machine
@@ -97,7 +97,7 @@ module _ (sheet : Workflow) (limit : ℕ) (event : Event) (mappings : Mappings) 
   moves_on Take = true
   moves_on Consume = true
   moves_on (Wants node field from) = false
-  moves_on (Refuse number) = false
+  moves_on (Refuse refusal) = false
 
   abbrev pub is_moving : Machine → Bool
   is_moving machine = moves_on machine.next

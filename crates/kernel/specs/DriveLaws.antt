@@ -33,14 +33,14 @@ use Rattle.model.specs.declared.moves.Next.{Next}
 use Rattle.model.specs.declared.moves.Next.TheVariants.{Rest, Enter, Take, Consume, Wants, Refuse}
 use Rattle.model.specs.declared.moves.Move.{Move}
 use Rattle.workflow.specs.Code.{none}
-use Rattle.model.specs.Code.{store, invariant}
+use Rattle.workflow.specs.declared.refusal.Refusal.{Refusal}
+use Rattle.model.specs.Code.{store}
 use Rattle.model.specs.Store.{listed as stored_as, stored, first_signal, signal_at, removed, leaves_over, left_over, emptied}
 use Rattle.model.specs.StoreLaws.{IsSlotted, stored_length, length_left}
 use Rattle.model.specs.Step.{still, no_note, no_ending, no_mapping, arrival, enter, follow_to, route_limited, route, take_by, take as take_signal}
 use Rattle.model.specs.EnterLaws.{NoNode, entering}
 use Rattle.model.specs.RouteLaws.{consumed, taking}
 use Rattle.kernel.specs.Cost.{cost, takes, entered}
-use Rattle.kernel.specs.Code.{microsteps_exceeded, commands_exceeded, operations_exceeded}
 use Rattle.machine.specs.Events.{apply}
 use Rattle.kernel.specs.Drive.{Machine, operations_of, added, moved, over_limit, counting, consume_by, advance_by, advance, moves_on, is_moving, driven}
 use Rattle.kernel.specs.Bounds.{none_more, Bounds, Bounded, fewer, bounded_advance, bounded_started}
@@ -110,21 +110,21 @@ orders_byte (Some x) = refl
 
 unfoldable pub rest_answer : Option Order → Limits → (microsteps operations : ℕ) → code.Answer
 rest_answer o l k n =
-    when ltb l.commands (orders o) then code.Answer.Refused commands_exceeded none else
-    when ltb l.operations n then code.Answer.Refused operations_exceeded none else
+    when ltb l.commands (orders o) then code.Answer.Refused Refusal.CommandsExceeded none else
+    when ltb l.operations n then code.Answer.Refused Refusal.OperationsExceeded none else
     code.Answer.Next o k
 
 -- The answer where no move follows. Where the store is consumed, the run goes on waiting.
 unfoldable pub answer_of : Next → Option Order → Limits → (microsteps operations : ℕ) → code.Answer
 answer_of Rest o l k n = rest_answer o l k n
-answer_of (Enter t b) o l k n = code.Answer.Refused invariant none
-answer_of Take o l k n = code.Answer.Refused invariant none
+answer_of (Enter t b) o l k n = code.Answer.Refused Refusal.Invariant none
+answer_of Take o l k n = code.Answer.Refused Refusal.Invariant none
 answer_of Consume o l k n = rest_answer None l k n
 answer_of (Wants t i b) o l k n = code.Answer.Wants t i b
 answer_of (Refuse r) o l k n = code.Answer.Refused r none
 
-pub answer_else : (n : Next) (o : Option Order) (l : Limits) (k q : ℕ) → (n ≡ Rest → ⊥) → (n ≡ Consume → ⊥) → ((t i b : ℕ) → n ≡ Wants t i b → ⊥) → ((r : ℕ) → n ≡ Refuse r → ⊥)
-    → code.Answer.Refused invariant none ≡ answer_of n o l k q
+pub answer_else : (n : Next) (o : Option Order) (l : Limits) (k q : ℕ) → (n ≡ Rest → ⊥) → (n ≡ Consume → ⊥) → ((t i b : ℕ) → n ≡ Wants t i b → ⊥) → ((r : Refusal) → n ≡ Refuse r → ⊥)
+    → code.Answer.Refused Refusal.Invariant none ≡ answer_of n o l k q
 unfolding answer_of
 answer_else Rest o l k q x y z w = absurd (x refl)
 answer_else Consume o l k q x y z w = absurd (y refl)
@@ -301,7 +301,7 @@ module _ (f : Workflow) (l : Limits) (e : Event) (m : Mappings) (v₀ : Round) w
 
   -- The call is refused for its microsteps.
   abbrev Over : Type 0
-  Over = decision_of (call.refused microsteps_exceeded none) ≡ decision_of (finish l at_end)
+  Over = decision_of (call.refused Refusal.MicrostepsExceeded none) ≡ decision_of (finish l at_end)
 
   -- ONE MOVE THAT IS COUNTED.
   module _ (x : Machine) (g : Going x) (go : moves_on f limit e m x.next ≡ true) (v : Move) (is : counting f limit e m x v ≡ advance f limit e m x) where

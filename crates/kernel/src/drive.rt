@@ -17,6 +17,7 @@ use model::store::leaves_over;
 use model::{BufferedSignal, State, code as record};
 use workflow::code::NONE;
 use workflow::layout::NUMBERS;
+use workflow::refusal::Refusal;
 
 // What a signal that is taken and the entry that follows make of a call: the record and what comes next, what was said, and how
 // many microsteps these were.
@@ -111,13 +112,13 @@ fn rest_answer(order: Option<Order>, limits: Limits, microsteps: u32, operations
 {
     if limits.commands < order_count(order) {
         return Answer::Refused {
-            number: code::COMMANDS_EXCEEDED,
+            refusal: Refusal::CommandsExceeded,
             item: NONE,
         };
     }
     if u64::from(limits.operations) < operations {
         return Answer::Refused {
-            number: code::OPERATIONS_EXCEEDED,
+            refusal: Refusal::OperationsExceeded,
             item: NONE,
         };
     }
@@ -138,24 +139,27 @@ fn answer_of(
         Next::Rest => rest_answer(order, limits, microsteps, operations),
         Next::Consume => rest_answer(None, limits, microsteps, operations),
         Next::Wants { node, field, from } => Answer::Wants { node, field, from },
-        Next::Refuse(number) => Answer::Refused { number, item: NONE },
+        Next::Refuse(refusal) => Answer::Refused {
+            refusal,
+            item: NONE,
+        },
         _ => Answer::Refused {
-            number: record::INVARIANT,
+            refusal: Refusal::Invariant,
             item: NONE,
         },
     }
 }
 
 // A refusal has its number and item, and nothing more.
-pub fn refusal(number: u32, item: u32) -> Decision
-    ensures { result ≡ decision_of (refused number item) }
+pub fn refusal(refusal: Refusal, item: u32) -> Decision
+    ensures { result ≡ decision_of (refused refusal item) }
 {
     Decision {
         notes: [no_note(); code::LIST],
         endings: [no_ending(); code::LIST],
         note_count: 0,
         ending_count: 0,
-        answer: Answer::Refused { number, item },
+        answer: Answer::Refused { refusal, item },
         state: State::fresh(0),
     }
 }
@@ -253,7 +257,7 @@ fn decide(
             }
         }
         Answer::Wants { node, field, from } => want(node, field, from, state),
-        Answer::Refused { number, item } => refusal(number, item),
+        Answer::Refused { refusal: why, item } => refusal(why, item),
     }
 }
 
@@ -277,7 +281,7 @@ fn run(
     loop {
         microsteps += v.microsteps;
         if limits.microsteps < microsteps {
-            return refusal(code::MICROSTEPS_EXCEEDED, NONE);
+            return refusal(Refusal::MicrostepsExceeded, NONE);
         }
         if let Some(note) = v.note {
             notes[note_count as usize] = note;

@@ -14,6 +14,7 @@ use model::answer::{Answer, Ending, Note};
 use model::event::{Event, Mappings};
 use model::{State, code as record};
 use workflow::layout::NUMBERS;
+use workflow::refusal::Refusal;
 
 // The most that a call may count.
 #[derive(Clone, Copy)]
@@ -54,17 +55,17 @@ fn is_next(sequence: u64, last: u64) -> bool
 fn start_stage(kind: u32, sequence: u64) -> Result<(), Broken>
     ensures { result ≡ start_stage kind sequence }
 {
-    rule(code::NOT_STARTED, kind == record::RUN_STARTED)?;
-    rule(code::OUT_OF_SEQUENCE, sequence == 1)
+    rule(Refusal::NotStarted, kind == record::RUN_STARTED)?;
+    rule(Refusal::OutOfSequence, sequence == 1)
 }
 
 // With a record: 24, 25, 22.
 fn next_stage(w: &[u32; NUMBERS], s: &State, kind: u32, sequence: u64) -> Result<(), Broken>
     ensures { result ≡ next_stage (workflow w.now) s.now kind sequence }
 {
-    rule(code::STARTED_BEFORE, kind != record::RUN_STARTED)?;
-    rule(code::INCONSISTENT, snapshot::consistent(w, *s))?;
-    rule(code::OUT_OF_SEQUENCE, is_next(sequence, s.last_sequence))
+    rule(Refusal::StartedBefore, kind != record::RUN_STARTED)?;
+    rule(Refusal::Inconsistent, snapshot::consistent(w, *s))?;
+    rule(Refusal::OutOfSequence, is_next(sequence, s.last_sequence))
 }
 
 // The stages of a call before its step: sheet, event, record.
@@ -72,7 +73,10 @@ pub fn admit(w: &[u32; NUMBERS], given: &Option<State>, c: &Call) -> Result<(), 
     ensures { result ≡ admission (workflow w.now) given.now c.now }
 {
     graph::validate(w, c.ceilings)?;
-    rule(code::EVENT_UNFIT, snapshot::event_fits(c.event, c.mappings))?;
+    rule(
+        Refusal::EventUnfit,
+        snapshot::event_fits(c.event, c.mappings),
+    )?;
     match given {
         Some(s) => next_stage(w, s, c.event.kind, c.event.sequence),
         None => start_stage(c.event.kind, c.event.sequence),
@@ -84,7 +88,7 @@ pub fn transition(w: &[u32; NUMBERS], given: Option<State>, c: Call) -> Decision
     ensures { result ≡ decision_of (transition (workflow w.now) given c) }
 {
     if let Err(broken) = admit(w, &given, &c) {
-        return drive::refusal(broken.rule, broken.item);
+        return drive::refusal(broken.refusal, broken.item);
     }
     let s = match given {
         Some(s) => s,

@@ -1,5 +1,6 @@
 -- The number and the values of each case of an answer, as document 01 lists them (docs/NUMBERS.md: where each stands).
 use Rattle.std.specs.Prelude.{List, [], ◌∷◌, ℕ, Option, Some, None}
+use Rattle.workflow.specs.Refusal.{number}
 use Rattle.model.specs.declared.Output.{Output}
 use Rattle.model.specs.declared.ErrorInfo.{ErrorInfo}
 use Rattle.model.specs.declared.answer.Order.{Order}
@@ -31,4 +32,4 @@ order_numbers (Some (Order.Retry retry)) = 2 ∷ retry.node ∷ retry.visit ∷ 
 unfoldable pub answer_numbers : Answer → List ℕ
 answer_numbers (Answer.Next order microsteps) = 1 ∷ microsteps ∷ order_numbers order
 answer_numbers (Answer.Wants node field from) = 2 ∷ node ∷ field ∷ from ∷ 0 ∷ 0 ∷ 0 ∷ 0 ∷ 0 ∷ 0 ∷ 0 ∷ []
-answer_numbers (Answer.Refused number item) = 3 ∷ number ∷ item ∷ 0 ∷ 0 ∷ 0 ∷ 0 ∷ 0 ∷ 0 ∷ 0 ∷ 0 ∷ []
+answer_numbers (Answer.Refused refusal item) = 3 ∷ number refusal ∷ item ∷ 0 ∷ 0 ∷ 0 ∷ 0 ∷ 0 ∷ 0 ∷ 0 ∷ 0 ∷ []

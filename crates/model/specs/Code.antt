@@ -155,13 +155,3 @@ end_ignored = 4
 
 abbrev pub end_left_over : ℕ
 end_left_over = 5
-
--- Refusals of a move: 0 is the original's kernel.invariant, which no call is answered with; 27 there is no time or number for a retry; 28 a mapping value can't be encoded.
-abbrev pub invariant : ℕ
-invariant = 0
-
-abbrev pub no_retry : ℕ
-no_retry = 27
-
-abbrev pub unencodable : ℕ
-unencodable = 28

@@ -11,7 +11,8 @@ use Rattle.workflow.specs.Code.{none}
 use Rattle.workflow.specs.Layout.{node_room}
 use Rattle.workflow.specs.View.{Workflow}
 use Rattle.workflow.specs.Lookup.{node_slots}
-use Rattle.model.specs.Code.{field_params, visits_exceeded, activations_exceeded, invariant}
+use Rattle.workflow.specs.declared.refusal.Refusal.{Refusal}
+use Rattle.model.specs.Code.{field_params, visits_exceeded, activations_exceeded}
 use Rattle.model.specs.declared.Visits.{Visits}
 use Rattle.model.specs.declared.State.{State}
 use Rattle.model.specs.declared.event.Mappings.{Mappings}
@@ -147,7 +148,7 @@ shows_one_more {s} {n} {v} h k =
 
 -- The tests of an entry, where there are k nodes, and what it comes to past them.
 module _ (f : Workflow) (s : State) (n b : ℕ) (m : Mappings) (e : Entry) {k v a t : ℕ} (room : k ≡ node_slots f) (given : Uncounted s n v a t) where
-  pub strays : k ≤ n → e.entered ≡ false → made s e ≡ still s (Refuse invariant) → made (counted s n e) e ≡ enter f s n b m
+  pub strays : k ≤ n → e.entered ≡ false → made s e ≡ still s (Refuse Refusal.Invariant) → made (counted s n e) e ≡ enter f s n b m
   unfolding enter when◌then◌else◌
   strays h p g = passes s n e p (g ∙ sym (simp (← room, le-leb _ _ h)))
 

@@ -9,9 +9,10 @@ use borrow.Author.Tests.{ltb-true, ltb-false, lt-ltb, le-ltb, le-leb}
 use Rattle.std.proofs.Math.Dec.{leb}
 use Rattle.laws.specs.Bool.{when◌then◌else◌, split}
 use Rattle.workflow.specs.Code.{exhausted}
-use Rattle.model.specs.Code.{store, largest, running, scheduled, invariant, no_retry, largest_attempt, note_retry, note_exhausted, note_unrouted, end_routed, end_unrouted}
+use Rattle.model.specs.Code.{store, largest, running, scheduled, largest_attempt, note_retry, note_exhausted, note_unrouted, end_routed, end_unrouted}
 use Rattle.workflow.specs.View.{Workflow}
 use Rattle.workflow.specs.Lookup.{node_slots, node_of, route_of}
+use Rattle.workflow.specs.declared.refusal.Refusal.{Refusal}
 use Rattle.model.specs.declared.Output.{Output}
 use Rattle.model.specs.declared.BufferedSignal.{BufferedSignal}
 use Rattle.model.specs.declared.Position.{Position}
@@ -47,7 +48,7 @@ routing_of (Some x) k n o = when leb x (streak_count k o) then exhausts n o x el
 -- Where a route leads.
 unfoldable pub next_of : Option ℕ → (node : ℕ) → Next
 next_of (Some t) n = Enter t n
-next_of None n = Refuse invariant
+next_of None n = Refuse Refusal.Invariant
 
 module _ (f : Workflow) (s : State) (n : ℕ) where
   -- The move that routes.
@@ -87,7 +88,7 @@ unstored_makes p k n t e m h g = record { inside = λ x z. let y : ◌≡◌ {A 
 
 -- A node that lacks a slot goes astray.
 module _ (f : Workflow) (p : Position) (k : Streak) (o : ℕ) (x : Output) (e : Option Ending) where
-  pub strays : {m : ℕ} {r : Routed} → m ≡ node_slots f → m ≤ p.node → r ≡ unstored (Refuse invariant) None e → Makes p k r (λ s. ends e (route f s o x))
+  pub strays : {m : ℕ} {r : Routed} → m ≡ node_slots f → m ≤ p.node → r ≡ unstored (Refuse Refusal.Invariant) None e → Makes p k r (λ s. ends e (route f s o x))
   unfolding route when◌then◌else◌
   strays em le h = unstored_makes p k _ _ _ _ h (λ s a. rw a (simp (← em, le-leb _ _ le)))
 
@@ -209,7 +210,7 @@ not_above a n e h = ltb-false a n (sym e ∙ h)
 -- WHAT THE NEXT ATTEMPT MAKES of a record.
 unfoldable pub tried : State → Option Attempt → Move
 tried s (Some r) = record { state = placed s running s.position r.invocation; next = Rest; note = Some r.note; ending = None; order = Some r.order; read = 0 }
-tried s None = still s (Refuse no_retry)
+tried s None = still s (Refuse Refusal.NoRetry)
 
 -- Of every record that stands there with that invocation and time it makes this move.
 pub record Tries (p : Position) (v : InvocationState) (last : ℕ) (r : Option Attempt) (m : State → Move) : Type 0 where

@@ -2,9 +2,10 @@
 use Rattle.std.specs.Prelude.{ℕ, Option, Some, None, Result, Ok, Err, ◌+◌, get_or, ltb, leb, eqb}
 use Rattle.laws.specs.Bool.{when◌then◌else◌, ◌and◌}
 use Rattle.workflow.specs.Code.{none, received, exhausted, activity, await_signal, complete}
-use Rattle.model.specs.Code.{largest, largest_attempt, running, waiting, run_completed, run_failed, scheduled, value, fault, field_input, field_params, field_output, visits_exceeded, activations_exceeded, note_unrouted, note_retry, note_exhausted, invariant, no_retry, unencodable, end_routed, end_unrouted}
+use Rattle.model.specs.Code.{largest, largest_attempt, running, waiting, run_completed, run_failed, scheduled, value, fault, field_input, field_params, field_output, visits_exceeded, activations_exceeded, note_unrouted, note_retry, note_exhausted, end_routed, end_unrouted}
 use Rattle.workflow.specs.View.{Workflow}
 use Rattle.workflow.specs.Lookup.{is_0_2, node_slots, node_of, route_of, limit_of}
+use Rattle.workflow.specs.declared.refusal.Refusal.{Refusal}
 use Rattle.model.specs.declared.ErrorInfo.{ErrorInfo}
 use Rattle.model.specs.declared.Output.{Output}
 use Rattle.model.specs.declared.BufferedSignal.{BufferedSignal}
@@ -136,7 +137,7 @@ module _ (sheet : Workflow) where
   -- What follows a mapping that has no value: a fault fails the run at that node, else the call goes no further.
   unfoldable pub without_value : NoValue → State → (node field from read : ℕ) → Move
   without_value (Fault code detail) state node field from read = reading read (terminate state (error code node detail))
-  without_value Unencodable state node field from read = still state (Refuse unencodable)
+  without_value Unencodable state node field from read = still state (Refuse Refusal.Unencodable)
   without_value Lacking state node field from read = still state (Wants node field from)
 
   -- A mapping is evaluated, the read-th answer that is read; `go_on` is what follows a value.
@@ -201,7 +202,7 @@ module _ (sheet : Workflow) where
 
   -- The original fails where a run comes to or stands at no node of the sheet. On an accepted sheet it never does: 0 is never answered.
   abbrev pub astray : State → Move
-  astray state = still state (Refuse invariant)
+  astray state = still state (Refuse Refusal.Invariant)
 
   -- Entering tests visits, then activations, then adds one to both.
   unfoldable pub enter : State → (node from : ℕ) → Mappings → Move
@@ -253,8 +254,8 @@ module _ (sheet : Workflow) where
   unfoldable pub retry : State → (delay : ℕ) → Move
   retry state delay =
       let invocation = state.invocation in
-      when ltb largest (planned sheet state.last_accepted_at delay) then still state (Refuse no_retry) else
-      when ltb largest_attempt (invocation.attempt + 1) then still state (Refuse no_retry) else
+      when ltb largest (planned sheet state.last_accepted_at delay) then still state (Refuse Refusal.NoRetry) else
+      when ltb largest_attempt (invocation.attempt + 1) then still state (Refuse Refusal.NoRetry) else
       noting note_retry state.position.node (invocation.attempt + 1) 0 0
       (ordering
       (Order.Retry

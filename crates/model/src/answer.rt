@@ -2,6 +2,8 @@
 ghost use Rattle.std.specs.Prelude.{◌≡◌};
 ghost use Rattle.model.specs.Answers.{params_numbers, order_numbers, answer_numbers};
 
+use workflow::refusal::Refusal;
+
 #[derive(Clone, Copy)]
 pub struct ScheduleActivity {
     pub not_before: u64,
@@ -58,7 +60,7 @@ pub enum Answer {
         from: u32,
     },
     Refused {
-        number: u32,
+        refusal: Refusal,
         item: u32,
     },
 }
@@ -151,9 +153,9 @@ impl Answer {
                 0,
                 0,
             ],
-            Answer::Refused { number, item } => [
+            Answer::Refused { refusal, item } => [
                 3,
-                u64::from(number),
+                u64::from(refusal.number()),
                 u64::from(item),
                 0,
                 0,

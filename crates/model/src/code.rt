@@ -106,10 +106,3 @@ pub const END_OVERFLOW: u32 = 3;
 pub const END_IGNORED: u32 = 4;
 
 pub const END_LEFT_OVER: u32 = 5;
-
-// Refusals of a move: the original's kernel.invariant, which no call is answered with; no time or number for a retry; a mapping value that can't be encoded.
-pub const INVARIANT: u32 = 0;
-
-pub const NO_RETRY: u32 = 27;
-
-pub const UNENCODABLE: u32 = 28;

@@ -12,6 +12,7 @@ use crate::time::planned;
 use crate::{ErrorInfo, InvocationState, Output, Position, RunResult, State, Visits, code};
 use workflow::code as sheet;
 use workflow::layout::{NODES, NUMBERS};
+use workflow::refusal::Refusal;
 
 // A count below a limit, and one more.
 fn one_more(count: u32, limit: u32) -> u32
@@ -118,7 +119,7 @@ fn halting(why: NoValue, node: u32, field: u32, from: u32, read: u32) -> Entry
 {
     match why {
         NoValue::Fault { code, detail } => failing(true, code, node, detail, read),
-        NoValue::Unencodable => staying(true, Next::Refuse(code::UNENCODABLE)),
+        NoValue::Unencodable => staying(true, Next::Refuse(Refusal::Unencodable)),
         NoValue::Lacking => staying(true, Next::Wants { node, field, from }),
     }
 }
@@ -259,7 +260,7 @@ fn entry_of(
 {
     let n = node as usize;
     if workflow::capped(w[workflow::layout::NODE_COUNT], NODES) <= n {
-        return staying(false, Next::Refuse(code::INVARIANT));
+        return staying(false, Next::Refuse(Refusal::Invariant));
     }
     if w[workflow::layout::MAX_VISITS_PER_NODE] <= visits {
         return failing(false, code::VISITS_EXCEEDED, node, 0, 0);

@@ -4,6 +4,7 @@ ghost use Rattle.model.specs.Step.{no_note, no_ending, still};
 
 use crate::State;
 use crate::answer::{Ending, Note, Order};
+use workflow::refusal::Refusal;
 
 // What comes after a move.
 #[derive(Clone, Copy)]
@@ -19,7 +20,7 @@ pub enum Next {
     // a mapping value is lacking
     Wants { node: u32, field: u32, from: u32 },
     // the call is refused
-    Refuse(u32),
+    Refuse(Refusal),
 }
 
 // The next record and what comes after, with at most one note, one ending and one order, and how many mapping answers were read.

@@ -10,6 +10,7 @@ use crate::moves::{Move, Next, still};
 use crate::time::planned;
 use crate::{InvocationState, Position, State, code};
 use workflow::layout::NUMBERS;
+use workflow::refusal::Refusal;
 
 // The planned time is above the largest.
 fn is_late(w: &[u32; NUMBERS], last_accepted_at: u64, delay: u64) -> bool
@@ -75,7 +76,7 @@ impl State {
             self.last_accepted_at,
             delay,
         ) else {
-            return still(self, Next::Refuse(code::NO_RETRY));
+            return still(self, Next::Refuse(Refusal::NoRetry));
         };
         self.status = code::RUNNING;
         self.invocation = next.invocation;

@@ -13,6 +13,7 @@ use crate::moves::{Move, Next};
 use crate::{BufferedSignal, NodeResult, Output, Position, State, Streak, code};
 use workflow::code as sheet;
 use workflow::layout::{NODES, NUMBERS};
+use workflow::refusal::Refusal;
 
 // Which outcome a node follows, with its next streak and the note that goes with it.
 #[derive(Clone, Copy)]
@@ -76,7 +77,7 @@ fn next_of(target: Option<u32>, node: u32) -> Next
             node: t,
             from: node,
         },
-        None => Next::Refuse(code::INVARIANT),
+        None => Next::Refuse(Refusal::Invariant),
     }
 }
 
@@ -149,7 +150,7 @@ fn routed_from(
     let node = position.node;
     let n = node as usize;
     if workflow::capped(w[workflow::layout::NODE_COUNT], NODES) <= n {
-        return unstored(Next::Refuse(code::INVARIANT), None, ending);
+        return unstored(Next::Refuse(Refusal::Invariant), None, ending);
     }
     let limit = workflow::find_limit(w, node, outcome);
     let routing = routing_of(limit, streak, node, outcome);

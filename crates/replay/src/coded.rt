@@ -1,6 +1,6 @@
 // The recorded calls in bytes (docs/BYTES.md): each is written as bytes, made, and its answer compared with the bytes of the recorded one.
 
-use crate::sample::Sample;
+use crate::sample::{Answered, Sample};
 use host::layout;
 use std::alloc::{AllocError, Global};
 
@@ -111,9 +111,10 @@ fn call(alloc: Global, sample: &Sample) -> Result<Vec<u8>, Unwritten> {
 }
 
 // A recorded answer that isn't a refusal.
-fn answer(alloc: Global, xs: &[u64; layout::ANSWER]) -> Result<Vec<u8>, Unwritten> {
+fn answer(alloc: Global, sample: &Sample) -> Result<Vec<u8>, Unwritten> {
+    let xs = &sample.answer;
     let mut out = Vec::new(alloc);
-    if xs[layout::ANSWER_KIND] == 2 {
+    if sample.answered() == Answered::Wants {
         numbers(&mut out, &xs[..layout::WANT_WIDTH])?;
     } else {
         let notes = &xs[layout::ANSWER_NOTES..layout::ANSWER_ENDINGS];
@@ -129,19 +130,15 @@ fn answer(alloc: Global, xs: &[u64; layout::ANSWER]) -> Result<Vec<u8>, Unwritte
 }
 
 // What the call in bytes says is what the recorded answer says, and past its bytes nothing is written.
-fn agrees(
-    alloc: Global,
-    told: u64,
-    out: &[u8],
-    xs: &[u64; layout::ANSWER],
-) -> Result<bool, Unwritten> {
-    if xs[layout::ANSWER_KIND] == 3 {
+fn agrees(alloc: Global, told: u64, out: &[u8], sample: &Sample) -> Result<bool, Unwritten> {
+    let xs = &sample.answer;
+    if sample.answered() == Answered::Refused {
         return Ok(
             told % HALF == xs[layout::ANSWER_REFUSAL_NUMBER]
                 && told / HALF == xs[layout::ANSWER_REFUSAL_ITEM],
         );
     }
-    let due = answer(alloc, xs)?;
+    let due = answer(alloc, sample)?;
     let bytes = written(told, out).ok_or(Unwritten::Refused)?;
     Ok(bytes == due.as_slice() && out.iter().skip(bytes.len()).all(|x| *x == 0))
 }
@@ -154,7 +151,7 @@ pub fn judge(alloc: Global, sample: &Sample) -> Result<Judged, AllocError> {
     };
     let mut out = [0; ENOUGH];
     let told = in_bytes::kuxhoveza_call(&bytes, &mut out);
-    match agrees(alloc, told, &out, &sample.answer) {
+    match agrees(alloc, told, &out, sample) {
         Ok(true) => Ok(Judged::Agrees),
         Ok(false) | Err(Unwritten::Refused) => Ok(Judged::Differs),
         Err(Unwritten::Memory(error)) => Err(error),

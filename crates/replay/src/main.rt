@@ -7,7 +7,7 @@ mod sample;
 
 use coded::Judged;
 use host::layout;
-use sample::{BadLine, Kind, Sample};
+use sample::{Answered, BadLine, Kind, Sample};
 use std::alloc::{AllocError, Global};
 use std::io::{self, BufRead, BufReader};
 use workflow::layout::NUMBERS as SHEET;
@@ -71,10 +71,10 @@ impl Counts {
     // One call more.
     fn add(&mut self, alloc: Global, sample: &Sample) -> Result<(), AllocError> {
         count(&mut self.calls);
-        match sample.answer[layout::ANSWER_KIND] {
-            1 => count(&mut self.next),
-            2 => count(&mut self.wants),
-            _ => count(&mut self.refused),
+        match sample.answered() {
+            Answered::Next => count(&mut self.next),
+            Answered::Wants => count(&mut self.wants),
+            Answered::Refused => count(&mut self.refused),
         }
         if agrees(sample) {
             count(&mut self.agree);

@@ -1,6 +1,6 @@
 // A recorded call with its answer, read from the sample's lines (docs/NUMBERS.md).
 
-use host::layout::{ANSWER, CALL, RECORD};
+use host::layout::{ANSWER, ANSWER_KIND, CALL, RECORD};
 use std::str::SplitWhitespace;
 use workflow::layout::NUMBERS as SHEET;
 
@@ -29,6 +29,14 @@ impl TryFrom<u64> for Kind {
             _ => Err(BadLine),
         }
     }
+}
+
+// What a recorded answer is.
+#[derive(Clone, Copy, PartialEq, Eq)]
+pub enum Answered {
+    Next,
+    Wants,
+    Refused,
 }
 
 // Each array as its latest line says.
@@ -61,6 +69,14 @@ impl Sample {
             Kind::Answer => self.answer = array(&mut words)?,
         }
         Ok(kind)
+    }
+
+    pub fn answered(&self) -> Answered {
+        match self.answer[ANSWER_KIND] {
+            1 => Answered::Next,
+            2 => Answered::Wants,
+            _ => Answered::Refused,
+        }
     }
 }
 

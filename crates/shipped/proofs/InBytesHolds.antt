@@ -7,7 +7,10 @@ use Rattle.std.proofs.lemmas.List.{length-replicate}
 use borrow.Author.Tests.{eqb-true, ne_eqb}
 use Rattle.laws.specs.Bool.{when◌then◌else◌, ◌and◌, split}
 use Rattle.laws.specs.All.{All}
+use Rattle.laws.specs.In.{Hit, hit, miss, hits}
 use Rattle.workflow.specs.Layout.{numbers as sheet_length}
+use Rattle.workflow.specs.Refusal.{number as refusal_number, refusals, refusal_of}
+use Rattle.workflow.specs.declared.refusal.Refusal.{Refusal}
 use Rattle.workflow.specs.View.{Workflow, workflow}
 use Rattle.kernel.specs.Call.{Accepted, Answer, next, wants, refused, given_record, transition}
 use Rattle.kernel.specs.Decision.{decision_of}
@@ -98,11 +101,21 @@ tells_written room ns e k =
     (λ u. rw (t, u) (packed_number layout.written (length (bytes_of ((answer_shape (at ns layout.answer_kind)).fields ns))) (omega arith)))
 
 -- THE NUMBERS OF A REFUSAL.
+same_number : (n : ℕ) → 0 < refusal_number (refusal_of n) → refusal_number (refusal_of n) ≡ n
+unfolding refusal_of
+same_number n = by (hits (λ r. eqb (refusal_number r) n) (λ _ r. r) Refusal.Invariant 0 refusals)
+  where
+    by : {r : Refusal} → Hit (λ r. eqb (refusal_number r) n) (λ _ r. r) Refusal.Invariant refusals r → 0 < refusal_number r → refusal_number r ≡ n
+    by (hit j r i t) h = eqb-true _ _ t
+    by (miss g) h = absurd (omega (arith, h))
+
 refusal_numbers : (a : Answer) (ns : List ℕ) → answer_of_numbers ns ≡ a → KnownAnswer a → at ns layout.answer_kind ≡ 3 → (0 < at ns layout.answer_refusal_number) × (at ns layout.answer_refusal_number < bad_bytes)
 unfolding answer_of_numbers when◌then◌else◌
 refusal_numbers a ns e known k =
-    let f : refused (at ns layout.answer_refusal_number) (at ns layout.answer_refusal_item) ≡ a = rw k at e in
-    rw (← f) at known
+    let f : refused (refusal_of (at ns layout.answer_refusal_number)) (at ns layout.answer_refusal_item) ≡ a = rw k at e in
+    let g = rw (← f) at known in
+    let q = same_number (at ns layout.answer_refusal_number) g.0 in
+    (omega (arith, q, g.0), omega (arith, q, g.1))
 
 -- THE NUMBERS OF AN ANSWER that has bytes: they are tidy, so that they read back, and their bytes are few.
 record WrittenNumbers (ns : List ℕ) : Type 0 where

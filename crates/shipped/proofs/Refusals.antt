@@ -8,14 +8,14 @@ use Rattle.laws.specs.In.{Hit, hit, miss, hits}
 use Rattle.workflow.specs.Code.{none}
 use Rattle.workflow.specs.View.{Workflow}
 use Rattle.workflow.specs.Sound.{Sound}
+use Rattle.workflow.specs.declared.refusal.Refusal.{Refusal}
+use Rattle.workflow.specs.Refusal.{number}
 use Rattle.graph.specs.declared.Broken.{Broken}
 use Rattle.graph.specs.declared.Ceilings.{Ceilings}
 use Rattle.graph.specs.Verdict.{rule, rule_at, first_broken, action_verdict, actions_verdict, verdict, Verdict, broken}
 use Rattle.model.specs.declared.State.{State}
 use Rattle.model.specs.declared.moves.Next.{Next}
 use Rattle.model.specs.declared.moves.Next.TheVariants.{Rest, Enter, Take, Consume, Wants, Refuse}
-use Rattle.model.specs.Code.{no_retry, unencodable}
-use Rattle.kernel.specs.Code.{microsteps_exceeded}
 use Rattle.kernel.specs.Drive.{Machine, driven}
 use Rattle.kernel.specs.declared.Call.{Call}
 use Rattle.kernel.specs.Call.{Answer, next, wants, refused, Last, start_stage, next_stage, record_stage, admission, given, finish_by, transition_by, transition}
@@ -25,27 +25,27 @@ use Rattle.demand3.proofs.Driver.{Checks, checked_driven}
 
 -- BEFORE THE STEP.
 record Known (v : Verdict) : Type 0 where
-  known : (x : Broken) → v ≡ Err x → (0 < x.rule) × (x.rule < 31)
+  known : (x : Broken) → v ≡ Err x → (0 < number x.refusal) × (number x.refusal < 31)
 
-abbrev rule_of : Verdict → ℕ
-rule_of (Ok tt) = 0
-rule_of (Err x) = x.rule
+abbrev number_of : Verdict → ℕ
+number_of (Ok tt) = 0
+number_of (Err x) = number x.refusal
 
 known_fine : Known (Ok tt)
 known_fine = record { known = λ x e. let z : ◌≡◌ {A = ℕ} 0 1 = cc in absurd (omega arith) }
 
-known_broken : (n i : ℕ) → ltb 0 n ≡ true → ltb n 31 ≡ true → Known (broken n i)
+known_broken : (n : Refusal) (i : ℕ) → ltb 0 (number n) ≡ true → ltb (number n) 31 ≡ true → Known (broken n i)
 known_broken n i a b =
-    let x = ltb-true 0 n a in
-    let y = ltb-true n 31 b in
-    record { known = λ z e. let q : n ≡ z.rule = ap rule_of e in (omega arith, omega arith) }
+    let x = ltb-true 0 (number n) a in
+    let y = ltb-true (number n) 31 b in
+    record { known = λ z e. let q : number n ≡ number z.refusal = ap number_of e in (omega arith, omega arith) }
 
-known_rule : (n : ℕ) (b : Bool) → ltb 0 n ≡ true → ltb n 31 ≡ true → Known (rule n b)
+known_rule : (n : Refusal) (b : Bool) → ltb 0 (number n) ≡ true → ltb (number n) 31 ≡ true → Known (rule n b)
 unfolding when◌then◌else◌
 known_rule n true x y = known_fine
 known_rule n false x y = known_broken n none x y
 
-known_rule_at : (n : ℕ) (x : Option ℕ) → ltb 0 n ≡ true → ltb n 31 ≡ true → Known (rule_at n x)
+known_rule_at : (n : Refusal) (x : Option ℕ) → ltb 0 (number n) ≡ true → ltb (number n) 31 ≡ true → Known (rule_at n x)
 unfolding rule_at
 known_rule_at n (Some i) x y = known_broken n i x y
 known_rule_at n None x y = known_fine
@@ -61,7 +61,7 @@ known_next (Err x) vs m n = m
 
 ruleset known_stages = (known_none, known_next, known_rule, known_rule_at)
 
-known_if : (b : Bool) (n i : ℕ) {v : Verdict} → ltb 0 n ≡ true → ltb n 31 ≡ true → Known v → Known (when b then broken n i else v)
+known_if : (b : Bool) (n : Refusal) (i : ℕ) {v : Verdict} → ltb 0 (number n) ≡ true → ltb (number n) 31 ≡ true → Known v → Known (when b then broken n i else v)
 unfolding when◌then◌else◌
 known_if true n i x y m = known_broken n i x y
 known_if false n i x y m = m
@@ -91,7 +91,7 @@ known_admission f r c = search (known_stages, known_verdict, known_record) depth
 abbrev pub KnownAnswer : Answer → Type 0
 KnownAnswer (next a) = Unit {0}
 KnownAnswer (wants n i b s) = Unit {0}
-KnownAnswer (refused k i) = (0 < k) × (k < 31)
+KnownAnswer (refused k i) = (0 < number k) × (number k < 31)
 
 module _ (f : Workflow) (sheet : Sound f) (c : Call) (s : State) (b : Begins f s c.event) where
   abbrev x : Machine
@@ -106,10 +106,10 @@ module _ (f : Workflow) (sheet : Sound f) (c : Call) (s : State) (b : Begins f s
   finishes (Wants n i j) h = tt
   finishes (Refuse k) h = by h.checks
     where
-      by : ((k ≡ no_retry) ⊎ (k ≡ unencodable)) ⊎ ((k ≡ microsteps_exceeded) × (c.limits.microsteps < 130)) → (0 < k) × (k < 31)
-      by (inl (inl e)) = (omega arith, omega arith)
-      by (inl (inr e)) = (omega arith, omega arith)
-      by (inr e) = (omega (arith, e.0), omega (arith, e.0))
+      by : ((k ≡ Refusal.NoRetry) ⊎ (k ≡ Refusal.Unencodable)) ⊎ ((k ≡ Refusal.MicrostepsExceeded) × (c.limits.microsteps < 130)) → (0 < number k) × (number k < 31)
+      by (inl (inl e)) = rw e (omega arith, omega arith)
+      by (inl (inr e)) = rw e (omega arith, omega arith)
+      by (inr e) = rw e.0 (omega arith, omega arith)
 
 known_by : (f : Workflow) (r : Last) (c : Call) (v : Verdict) → admission f r c ≡ v → SizedLast r → KnownAnswer (transition_by v f r c)
 unfolding transition_by

@@ -1,6 +1,7 @@
 -- definitions
 pub mod Code
 pub mod Layout
+pub mod Refusal
 pub mod View
 pub mod Lookup
 -- laws

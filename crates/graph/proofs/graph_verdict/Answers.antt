@@ -1,3 +1,4 @@
+use Rattle.workflow.specs.declared.refusal.Refusal.{Refusal}
 use Rattle.graph.specs.Chain.{stops, goes_on, rule_at_passed}
 use Rattle.graph.proofs.graph_verdict.Goals as goal
 
@@ -14,9 +15,9 @@ pub reach_verdict-requires : goal.reach_verdict-requires
 reach_verdict-requires c = record {
   formed = c.requires.formed;
   rule_5 = c.requires.starts;
-  rule_8 = rule_at_passed 8 c.in_ok-rule_8.ensures;
-  rule_9 = rule_at_passed 9 c.in_ok-rule_9.ensures;
-  rule_12 = rule_at_passed 12 c.in_ok-rule_12.ensures;
+  rule_8 = rule_at_passed Refusal.Activity c.in_ok-rule_8.ensures;
+  rule_9 = rule_at_passed Refusal.AwaitSignal c.in_ok-rule_9.ensures;
+  rule_12 = rule_at_passed Refusal.LoopLimits c.in_ok-rule_12.ensures;
 }
 
 pub returns : goal.returns

@@ -1,3 +1,4 @@
+use Rattle.workflow.specs.declared.refusal.Refusal.{Refusal}
 use Rattle.graph.specs.Chain.{stops, goes_on, rule_passed}
 use Rattle.graph.specs.Verdict.{verdict}
 use Rattle.graph.proofs.validate.Goals as goal
@@ -7,7 +8,7 @@ unfolding verdict
 returns-in_err-rule_20 c = stops _ c.in_err-rule_20.ensures c.from_residual.ensures.1
 
 pub formed_verdict-requires : goal.formed_verdict-requires
-formed_verdict-requires c = rule_passed 20 c.in_ok-rule_20.ensures
+formed_verdict-requires c = rule_passed Refusal.Form c.in_ok-rule_20.ensures
 
 pub returns : goal.returns
 unfolding verdict

@@ -7,4 +7,4 @@ returns-in-Ok c = simp c.in-Ok.is
 
 pub returns-in-Err : goal.returns-in-Err
 unfolding verdict_numbers
-returns-in-Err c = simp c.in-Err.is
+returns-in-Err c = rw (c.in-Err.is, c.number.ensures)

@@ -19,4 +19,4 @@ returns-in-Wants c = rw c.in-Wants.is cc
 
 pub returns-in-Refused : goal.returns-in-Refused
 unfolding answer_numbers
-returns-in-Refused c = rw c.in-Refused.is cc
+returns-in-Refused c = rw (c.in-Refused.is, c.from-in-Refused.ensures, c.from-in-Refused-2.ensures, c.number.ensures)
