@@ -1,5 +1,5 @@
 -- What the close keeps: a run that has ended leaves over what is still stored, and all else stays.
-use Rattle.std.specs.Prelude.{◌≡◌, Bool, true, false, List, [], ◌∷◌, ◌++◌, ℕ, ◌+◌, ◌≤◌, length}
+use Rattle.std.specs.Prelude.{◌≡◌, Bool, true, false, List, [], ◌∷◌, ◌++◌, ℕ, ◌+◌, ◌≤◌, length, Option, Some, None}
 use Rattle.std.proofs.Math.Path.{refl, ap}
 use Rattle.std.proofs.Common.{◌∙◌, ltb-false}
 use native.Mathlib.Omega.{arith}
@@ -127,10 +127,10 @@ module _ (f : Workflow) (s₀ : State) (e : Event) (x : Machine) where
   unfolding emptied
   new_emptied s n v a g = record { here = g.here; current = g.current; counted_in = g.counted_in; real = g.real; is_new = g.is_new }
 
-  orders_emptied : (s : State) (o : Order) → Ordering f s₀ e s o → Ordering f s₀ e (emptied s) o
-  orders_emptied s Order.Nothing g = tt
-  orders_emptied s (Order.Schedule z) g = new_emptied s z.node z.visit z.attempt g
-  orders_emptied s (Order.Retry z) g = new_emptied s z.node z.visit z.attempt g
+  orders_emptied : (s : State) (o : Option Order) → Ordering f s₀ e s o → Ordering f s₀ e (emptied s) o
+  orders_emptied s None g = tt
+  orders_emptied s (Some (Order.Schedule z)) g = new_emptied s z.node z.visit z.attempt g
+  orders_emptied s (Some (Order.Retry z)) g = new_emptied s z.node z.visit z.attempt g
 
   pub orders_closed : Ordering f s₀ e x.state x.order → Ordering f s₀ e (closed x).state (closed x).order
   unfolding closed

@@ -1,7 +1,6 @@
 -- Counting: how often a sequence number is in the store or among the endings, and how many visits there are.
-use Rattle.std.specs.Prelude.{◌≡◌, refl, false, List, [], ◌∷◌, ◌++◌, ℕ, zero, suc, ◌+◌, ◌≤◌, ◌<◌, get_or, set, length, eqb}
+use Rattle.std.specs.Prelude.{◌≡◌, Option, Some, None, List, [], ◌∷◌, ◌++◌, ℕ, zero, suc, ◌+◌, ◌≤◌, ◌<◌, get_or, set, length}
 use Rattle.std.proofs.Common.{arith}
-use Rattle.laws.specs.Bool.{when◌then◌else◌, if_false}
 use Rattle.laws.specs.Shift.{remove_at}
 use Rattle.laws.specs.All.{all_set}
 use Rattle.workflow.specs.View.{Workflow}
@@ -12,16 +11,9 @@ use Rattle.model.specs.declared.answer.Ending.{Ending}
 use Rattle.demand3.specs.Words.{is_it, times, total, Counts}
 
 -- THE ENDINGS. 1 if a move lists an ending of q, else 0.
-unfoldable pub ends_of : (q : ℕ) → Ending → ℕ
-ends_of q x = when eqb x.ending 0 then 0 else is_it q x.sequence
-
-pub ends_none : (q p : ℕ) → ends_of q (record { sequence = p; ending = 0 }) ≡ 0
-unfolding ends_of when◌then◌else◌
-ends_none q p = refl
-
-pub ends_one : (q p k : ℕ) → eqb k 0 ≡ false → ends_of q (record { sequence = p; ending = k }) ≡ is_it q p
-unfolding ends_of
-ends_one q p k h = if_false _ _ _ h
+unfoldable pub ends_of : (q : ℕ) → Option Ending → ℕ
+ends_of q None = 0
+ends_of q (Some x) = is_it q x.sequence
 
 -- THE STORE.
 times_append : (q : ℕ) (xs ys : List BufferedSignal) → times q (xs ++ ys) ≡ times q xs + times q ys

@@ -5,8 +5,8 @@ use Rattle.std.proofs.Common.{sym, ◌∙◌, inl, arith}
 use Rattle.std.proofs.Math.Bool.{true}
 use Rattle.std.proofs.Math.Logic.{inr}
 use Prim.Native.Nat.{ℕ, zero, suc, ◌+◌, ◌≤◌, ◌<◌}
-use borrow.Author.Tests.{ltb-true, eqb-true}
-use Rattle.laws.specs.Bool.{when◌then◌else◌, ◌and◌, split, both, join, either}
+use borrow.Author.Tests.{ltb-true}
+use Rattle.laws.specs.Bool.{when◌then◌else◌, split, both, join, either}
 use Rattle.laws.specs.Every.{every}
 use Rattle.laws.specs.Settle.{settle, settle_rests}
 use Rattle.workflow.specs.View.{Workflow}
@@ -25,7 +25,7 @@ use Rattle.model.specs.Code.{activity_result}
 use Rattle.model.specs.Record.{is_terminal, seen}
 use Rattle.model.specs.Store.{first_signal, signal_at, removed}
 use Rattle.model.specs.StoreLaws.{first_inside}
-use Rattle.model.specs.Step.{no_note, still, arrival}
+use Rattle.model.specs.Step.{still, arrival}
 use Rattle.machine.specs.Events.{apply}
 use Rattle.kernel.specs.Drive.{Machine, added, moved, counting, consume_by, advance_by, advance, moves_on, is_moving, opened, started, driven}
 use Rattle.kernel.specs.Bounds.{Bounds, Bounded, fewer, stopped, bounded_advance, bounded_started}
@@ -48,13 +48,10 @@ unfolding ends
 ends_append q [] ys = omega arith
 ends_append q (x ∷ xs) ys = omega (arith, ends_append q xs ys)
 
-ends_add : (q : ℕ) (xs : List Ending) (x : Ending) → ends q xs + ends_of q x ≡ ends q (added x.ending xs x)
-unfolding added ends_of ends when◌then◌else◌
-ends_add q xs x = split (eqb x.ending 0) (λ h. rw h (omega arith)) (λ h. rw h (omega (arith, ends_append q xs (x ∷ []))))
-
-zero_plain : (x : Note) → x.code ≡ 0 → plain x ≡ true
-unfolding plain ◌and◌
-zero_plain x h = rw h
+ends_add : (q : ℕ) (xs : List Ending) (o : Option Ending) → ends q xs + ends_of q o ≡ ends q (added xs o)
+unfolding added ends_of ends
+ends_add q xs None = omega arith
+ends_add q xs (Some x) = omega (arith, ends_append q xs (x ∷ []))
 
 module _ (f : Workflow) (sheet : Sound f) (limit : ℕ) (e : Event) (m : Mappings) where
   -- WHAT IS KEPT k moves before the last, from move to move, and by a machine that has come to rest, holds at the end.
@@ -210,9 +207,10 @@ module _ (f : Workflow) (sheet : Sound f) (limit : ℕ) (e : Event) (m : Mapping
         ap (λ (x : Machine). x.state) (settle_rests (is_moving f limit e m) (advance f limit e m) 131 (started f limit e m s₀) (ap (moves_on f limit e m) r.over)) ∙ r.same
 
     -- With none of the notes 1 to 3 a result was heard: what is noted stays noted.
-    plain_before : (xs : List Note) (x : Note) → every plain (added x.code xs x) ≡ true → every plain xs ≡ true
-    unfolding added when◌then◌else◌
-    plain_before xs x = split (eqb x.code 0) (λ h. rw h (λ g. g)) (λ h. rw h (λ g. every_front plain xs (x ∷ []) g))
+    plain_before : (xs : List Note) (o : Option Note) → every plain (added xs o) ≡ true → every plain xs ≡ true
+    unfolding added
+    plain_before xs None g = g
+    plain_before xs (Some x) g = every_front plain xs (x ∷ []) g
 
     plain_counting : (x : Machine) (v : Move) → every plain (counting f limit e m x v).notes ≡ true → every plain x.notes ≡ true
     unfolding counting
@@ -222,7 +220,7 @@ module _ (f : Workflow) (sheet : Sound f) (limit : ℕ) (e : Event) (m : Mapping
     plain_consume : (y : Option ℕ) (x : Machine) → every plain (consume_by f limit e m y x).notes ≡ true → every plain x.notes ≡ true
     unfolding consume_by
     plain_consume (Some i) x g = plain_counting x _ g
-    plain_consume None x g = plain_before x.notes no_note g
+    plain_consume None x g = plain_before x.notes None g
 
     plain_advance : (n : Next) (x : Machine) → every plain (advance_by f limit e m n x).notes ≡ true → every plain x.notes ≡ true
     unfolding advance_by
@@ -239,10 +237,6 @@ module _ (f : Workflow) (sheet : Sound f) (limit : ℕ) (e : Event) (m : Mapping
     plain_settle (suc k) x =
         either (λ (y : Machine). every plain y.notes ≡ true → every plain x.notes ≡ true) (is_moving f limit e m x) (λ _ g. plain_advance x.next x (plain_settle k _ g)) (λ _ g. g)
 
-    plain_note : (x : Note) → every plain (added x.code [] x) ≡ true → plain x ≡ true
-    unfolding added when◌then◌else◌ every ◌and◌
-    plain_note x = split (eqb x.code 0) (λ h. rw h (λ g. zero_plain x (eqb-true _ _ h))) (λ h. rw h (λ g. (both _ _ g).0))
-
     pub driven_hears : eqb e.kind activity_result ≡ true → every plain (driven f limit e m s₀).notes ≡ true → heard f s₀ e ≡ true
     unfolding driven
-    driven_hears k g = hears f (seen s₀ e.sequence e.accepted_at) e k (plain_note (apply f s₀ e).note (plain_settle 131 (started f limit e m s₀) g))
+    driven_hears k g = hears f (seen s₀ e.sequence e.accepted_at) e k (plain_settle 131 (started f limit e m s₀) g)

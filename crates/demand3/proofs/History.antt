@@ -1,5 +1,5 @@
 -- What stands after a list of accepted calls, and how one call more keeps it.
-use Rattle.std.specs.Prelude.{◌≡◌, Bool, ◌⊎◌, List, [], ◌∷◌, ◌++◌, ℕ, ◌+◌, ◌≤◌, ◌<◌, get_or, eqb}
+use Rattle.std.specs.Prelude.{◌≡◌, Bool, ◌⊎◌, List, [], ◌∷◌, ◌++◌, ℕ, ◌+◌, ◌≤◌, ◌<◌, get_or, eqb, Option, Some, None}
 use Rattle.std.proofs.Math.Path.{refl}
 use Rattle.std.proofs.Common.{sym, ◌∙◌, ap, inl, inr, arith}
 use Rattle.std.proofs.Math.Bool.{true, false}
@@ -160,11 +160,11 @@ module _ (f : Workflow) (ds : List Done) (s : State) (st : History f ds s) (e : 
       → Distinct (attempt n v k ∷ ordered ds) × All (Below a.state 0 a.state.invocation.attempt) (attempt n v k ∷ ordered ds)
   one_order n v k g = ((all_map _ _ (ordered ds) (fresh_order n v k g) st.below_ordered, st.ordered_once), (new_order n v k g, old_orders))
 
-  orders_once : (o : Order) → Ordering f s e a.state o
+  orders_once : (o : Option Order) → Ordering f s e a.state o
       → Distinct (ordered_by o ++ ordered ds) × All (Below a.state 0 a.state.invocation.attempt) (ordered_by o ++ ordered ds)
-  orders_once Order.Nothing g = (st.ordered_once, old_orders)
-  orders_once (Order.Schedule x) g = one_order x.node x.visit x.attempt g
-  orders_once (Order.Retry x) g = one_order x.node x.visit x.attempt g
+  orders_once None g = (st.ordered_once, old_orders)
+  orders_once (Some (Order.Schedule x)) g = one_order x.node x.visit x.attempt g
+  orders_once (Some (Order.Retry x)) g = one_order x.node x.visit x.attempt g
 
   -- RESULTS
   old_applied : All (Below a.state 1 (opens a.state.invocation)) (applied ds)

@@ -1,10 +1,12 @@
 -- What every move of a call keeps, on a sound sheet: signals are not lost, counts stay within their limits, and every order is new.
-use Rattle.std.specs.Prelude.{◌≡◌, ◌⊎◌, Bool, true, false, List, ℕ, ◌+◌, ◌≤◌, ◌<◌, get_or, length, eqb, Option, Some, None}
+use Rattle.std.specs.Prelude.{[], ◌≡◌, ◌⊎◌, Bool, true, false, List, ℕ, ◌+◌, ◌≤◌, ◌<◌, get_or, length, eqb, Option, Some, None, Result, Ok, Err}
 use Rattle.std.proofs.Math.Path.{refl, ap, fun_ext}
 use Rattle.std.proofs.Common.{sym, ◌∙◌, subst, arith, length-set, get_or-set_same}
 use Rattle.std.proofs.Math.Logic.{inl, inr}
 use Rattle.std.proofs.Math.Bool.{not, false≢true}
 use borrow.Author.Tests.{leb-false, eqb-true, ne_eqb, not-true, not-false}
+use Rattle.laws.specs.Every.{every}
+use Rattle.kernel.specs.Drive.{added}
 use Rattle.laws.specs.Bool.{when◌then◌else◌, ◌and◌, both, join, if_true, if_false, split, either}
 use Rattle.workflow.specs.Code.{none, exhausted}
 use Rattle.model.specs.Code.{scheduled, unknown, stuck, run_started, signal_received, activity_result, end_routed, end_unrouted, end_overflow, end_ignored}
@@ -13,15 +15,14 @@ use Rattle.workflow.specs.Lookup.{route_of}
 use Rattle.workflow.specs.Sound.{Sound}
 use Rattle.model.specs.declared.ErrorInfo.{ErrorInfo}
 use Rattle.model.specs.declared.Output.{Output}
-use Rattle.model.specs.declared.Kept.{Kept}
 use Rattle.model.specs.declared.BufferedSignal.{BufferedSignal}
 use Rattle.model.specs.declared.Visits.{Visits}
 use Rattle.model.specs.declared.InvocationState.{InvocationState}
 use Rattle.model.specs.declared.State.{State}
 use Rattle.model.specs.declared.event.Event.{Event}
 use Rattle.model.specs.declared.event.Mappings.{Mappings}
-use Rattle.model.specs.declared.event.Evaluated.{Evaluated}
-use Rattle.model.specs.declared.answer.Params.{Params}
+use Rattle.model.specs.declared.event.NoValue.{NoValue}
+use Rattle.model.specs.declared.event.NoValue.TheVariants.{Fault, Unencodable, Lacking}
 use Rattle.model.specs.declared.answer.Order.{Order}
 use Rattle.model.specs.declared.answer.Note.{Note}
 use Rattle.model.specs.declared.answer.Ending.{Ending}
@@ -30,11 +31,11 @@ use Rattle.model.specs.declared.moves.Next.TheVariants.{Rest, Enter, Take, Consu
 use Rattle.model.specs.declared.moves.Move.{Move}
 use Rattle.model.specs.Record.{no_visits, visits_of, is_terminal, seen}
 use Rattle.model.specs.Store.{stored, signal_at, removed, appended}
-use Rattle.model.specs.Step.{no_ending, still, reading, one_more_visit, phased, arrival, terminate, evaluate, schedule, enter_activity, enter_await, enter_complete, arrive, enter, follow_to, route_limited, route, take_by, take as take_signal, retry}
+use Rattle.model.specs.Step.{still, reading, one_more_visit, phased, arrival, terminate, evaluate, without_value, schedule, enter_activity, enter_await, enter_complete, arrive, enter, follow_to, route_limited, route, take_by, take as take_signal, retry}
 use Rattle.machine.specs.Events.{named, applies, not_applicable, complete_invocation, stick, fail_invocation, on_signal, on_success, on_failure, on_unknown, on_result, resolve_as_complete, resolve_as_fail, on_resolved, on_ended, react, apply}
 use Rattle.model.specs.StoreLaws.{IsSlotted, stored_length, appended_room, stored_appended, removed_at, stored_removed}
 use Rattle.demand3.specs.Words.{is_it, times, Counts, plain}
-use Rattle.demand3.proofs.Counts.{ends_of, ends_none, ends_one, times_more, times_less, counts_more, grows_set}
+use Rattle.demand3.proofs.Counts.{ends_of, times_more, times_less, counts_more, grows_set}
 use Rattle.demand3.proofs.Tidy.{Missed, rests, consumes}
 use Rattle.kernel.specs.Cost.{entered, spares_result, spares_resolved}
 
@@ -94,7 +95,7 @@ heard_is f s e r h =
       rises = if_true _ _ _ h;
     }
 
--- Nothing is told, or in hand.
+-- None is told, or in hand.
 abbrev pub nothing : (q : ℕ) → ℕ
 nothing q = 0
 
@@ -128,13 +129,13 @@ module _ (f : Workflow) (s₀ : State) (e : Event) where
     pub real : 1 ≤ visit
     pub is_new : ((visits_of s₀ node).count < visit) ⊎ ((node ≡ s₀.position.node) × (s₀.invocation.attempt < attempt))
 
-  abbrev pub Ordering : State → Order → Type 0
-  Ordering s Order.Nothing = Unit {0}
-  Ordering s (Order.Schedule x) = New s x.node x.visit x.attempt
-  Ordering s (Order.Retry x) = New s x.node x.visit x.attempt
+  abbrev pub Ordering : State → Option Order → Type 0
+  Ordering s None = Unit {0}
+  Ordering s (Some (Order.Schedule x)) = New s x.node x.visit x.attempt
+  Ordering s (Some (Order.Retry x)) = New s x.node x.visit x.attempt
 
   -- What holds after a move, by what comes next.
-  abbrev pub After : (told : ℕ → ℕ) → State → Order → Next → Type 0
+  abbrev pub After : (told : ℕ → ℕ) → State → Option Order → Next → Type 0
   After told s o Rest = record { live : Lives told s nothing; stands : Stands s; orders : Ordering s o }
   After told s o (Enter n b) = record { live : Lives told s nothing; inside : n < f.node_count }
   After told s o Take = record { live : Lives told s (λ q. is_it q e.sequence); stands : Stands s }
@@ -160,19 +161,21 @@ module _ (f : Workflow) (s₀ : State) (e : Event) where
   stands_appended s x g = either Stands _ (λ _. g) (λ _. g)
 
   -- a move without an ending tells nothing
-  untold : (told : ℕ → ℕ) (x : Ending) → x ≡ no_ending → told ≡ (λ q. told q + ends_of q x)
-  untold told x z = fun_ext (λ q. rw z (omega (arith, ends_none q 0)))
+  untold : (told : ℕ → ℕ) (x : Option Ending) → x ≡ None → told ≡ (λ q. told q + ends_of q x)
+  unfolding ends_of
+  untold told x z = fun_ext (λ q. rw z (omega arith))
 
   module _ {told : ℕ → ℕ} where
-    good : (v : Move) → v.ending ≡ no_ending → Leads told v → Good told v
+    good : (v : Move) → v.ending ≡ None → Leads told v → Good told v
     good v z g = record { after = subst (λ (t : ℕ → ℕ). After t v.state v.order v.next) (untold told v.ending z) g.leads }
 
     -- a signal in hand ends
-    live_ended : (s : State) (q k : ℕ) → eqb k 0 ≡ false → Lives told s (λ p. is_it p q) → Lives (λ p. told p + ends_of p (record { sequence = q; ending = k })) s nothing
-    live_ended s q k z g =
+    live_ended : (s : State) (q k : ℕ) → Lives told s (λ p. is_it p q) → Lives (λ p. told p + ends_of p (Some (record { sequence = q; ending = k }))) s nothing
+    unfolding ends_of
+    live_ended s q k g =
         record {
           nodes = g.nodes;
-          conserved = λ p. omega (arith, g.conserved p, ends_one p q k z);
+          conserved = λ p. omega (arith, g.conserved p);
           grows = g.grows;
           counts = g.counts;
           timed = g.timed;
@@ -196,8 +199,8 @@ module _ (f : Workflow) (s₀ : State) (e : Event) where
     leads_if : (b : Bool) {x y : Move} → Leads told x → Leads told y → Leads told (when b then x else y)
     leads_if b p q = either (Leads told) b (λ _. p) (λ _. q)
 
-    leads_rest : (s : State) {x : Note} {y : Ending} {r : ℕ} → Lives told s nothing → Stands s
-        → Leads told (record { state = s; next = Rest; note = x; ending = y; order = Order.Nothing; read = r })
+    leads_rest : (s : State) {x : Option Note} {y : Option Ending} {r : ℕ} → Lives told s nothing → Stands s
+        → Leads told (record { state = s; next = Rest; note = x; ending = y; order = None; read = r })
     leads_rest s g h = record { leads = record { live = g; stands = h; orders = tt } }
 
     -- no stored signal is left to take
@@ -208,16 +211,16 @@ module _ (f : Workflow) (s₀ : State) (e : Event) where
     unfolding terminate
     leads_terminate s x g = leads_rest _ g (gone refl)
 
-    leads_evaluate : (a : Evaluated) (s : State) (n i b r : ℕ) (k : ℕ → Move) → Lives told s nothing → ((x : ℕ) → Leads told (k x)) → Leads told (evaluate f a s n i b r k)
-    unfolding evaluate terminate
-    leads_evaluate (Evaluated.Value x) s n i b r k g h = h x
-    leads_evaluate (Evaluated.Fault c d) s n i b r k g h = leads_rest _ g (gone refl)
-    leads_evaluate Evaluated.Unencodable s n i b r k g h = record { leads = tt }
-    leads_evaluate Evaluated.Lacking s n i b r k g h = record { leads = tt }
+    leads_evaluate : (a : Result ℕ NoValue) (s : State) (n i b r : ℕ) (k : ℕ → Move) → Lives told s nothing → ((x : ℕ) → Leads told (k x)) → Leads told (evaluate f a s n i b r k)
+    unfolding evaluate without_value terminate
+    leads_evaluate (Ok x) s n i b r k g h = h x
+    leads_evaluate (Err (Fault c d)) s n i b r k g h = leads_rest _ g (gone refl)
+    leads_evaluate (Err Unencodable) s n i b r k g h = record { leads = tt }
+    leads_evaluate (Err Lacking) s n i b r k g h = record { leads = tt }
 
     -- at a node with a new visit
     module _ (s : State) (n : ℕ) (h : (visits_of s₀ n).count < (visits_of s n).count) (g : Lives told s nothing) where
-      leads_schedule : (x r : ℕ) (p : Params) → Leads told (reading r (schedule f s n x p))
+      leads_schedule : (x r : ℕ) (p : Option ℕ) → Leads told (reading r (schedule f s n x p))
       unfolding schedule
       leads_schedule x r p =
           record {
@@ -288,9 +291,9 @@ module _ (f : Workflow) (s₀ : State) (e : Event) where
     module _ {told : ℕ → ℕ} (s : State) (x : BufferedSignal) where
       good_take_by : (y : Option ℕ) {k : Next} → Missed k → Lives told s (λ q. is_it q x.sequence) → Stands s → Good told (take_by f y s x k)
       unfolding take_by
-      good_take_by (Some t) m g h = record { after = (leads_route s _ _ (live_ended s x.sequence end_routed refl g)).leads }
-      good_take_by None rests g h = record { after = record { live = live_ended s x.sequence end_unrouted refl g; stands = h; orders = tt } }
-      good_take_by None consumes g h = record { after = record { live = live_ended s x.sequence end_unrouted refl g; stands = h } }
+      good_take_by (Some t) m g h = record { after = (leads_route s _ _ (live_ended s x.sequence end_routed g)).leads }
+      good_take_by None rests g h = record { after = record { live = live_ended s x.sequence end_unrouted g; stands = h; orders = tt } }
+      good_take_by None consumes g h = record { after = record { live = live_ended s x.sequence end_unrouted g; stands = h } }
 
       pub good_take : {k : Next} → Missed k → Lives told s (λ q. is_it q x.sequence) → Stands s → Good told (take_signal f s x k)
       good_take m g h = good_take_by _ m g h
@@ -318,10 +321,10 @@ module _ (f : Workflow) (s₀ : State) (e : Event) where
     unmoved : rise f s₀ e ≡ 0 → Stands s₁
     unmoved z = stays refl refl (omega arith) (omega arith)
 
-    stands_parked : (p : ℕ) (x : Kept) → eqb p scheduled ≡ false → Standing s₀.position.node s₀.visits (phased s₀.invocation p s₀.invocation.attempt x)
+    stands_parked : (p : ℕ) (x : Option ErrorInfo) → eqb p scheduled ≡ false → Standing s₀.position.node s₀.visits (phased s₀.invocation p s₀.invocation.attempt x)
     stands_parked p x z = stays refl refl (omega arith) (rw (if_false (eqb p scheduled) s₀.invocation.attempt (s₀.invocation.attempt + 1) z) rises)
 
-    stands_again : Standing s₀.position.node s₀.visits (phased s₀.invocation scheduled (s₀.invocation.attempt + 1) Kept.Nothing)
+    stands_again : Standing s₀.position.node s₀.visits (phased s₀.invocation scheduled (s₀.invocation.attempt + 1) None)
     unfolding when◌then◌else◌
     stands_again = stays refl refl (omega arith) rises
 
@@ -372,10 +375,10 @@ module _ (f : Workflow) (s₀ : State) (e : Event) where
             (leads_if _ (leads_if _ (leads_retry _ c) (leads_if _ (leads_fail _ _ _) (leads_fail _ _ _)))
             (leads_if _ (leads_rest _ live (stands_parked unknown _ refl)) (leads_if _ (leads_retry _ c) (leads_fail _ _ _)))))
 
-        leads_resolve_as_fail : (x : Kept) → Leads nothing (resolve_as_fail f x s₁ e)
+        leads_resolve_as_fail : (x : Option ErrorInfo) → Leads nothing (resolve_as_fail f x s₁ e)
         unfolding resolve_as_fail
-        leads_resolve_as_fail (Kept.Error x) = leads_terminate s₁ x live
-        leads_resolve_as_fail Kept.Nothing = leads_fail _ _ _
+        leads_resolve_as_fail (Some x) = leads_terminate s₁ x live
+        leads_resolve_as_fail None = leads_fail _ _ _
 
         leads_resolved : Stands s₁ → Leads nothing (on_resolved f s₁ e)
         unfolding on_resolved not_applicable resolve_as_complete named
@@ -403,20 +406,19 @@ module _ (f : Workflow) (s₀ : State) (e : Event) where
               timed = g.timed;
             })
 
-        good_dropped : (c : ℕ) {x : Note} → eqb c 0 ≡ false
-            → Good nothing (record { state = s₁; next = Rest; note = x; ending = record { sequence = e.sequence; ending = c }; order = Order.Nothing; read = 0 })
-        good_dropped c z = record { after = record { live = live_ended s₁ e.sequence c z arrived; stands = h; orders = tt } }
+        good_dropped : (c : ℕ) {x : Option Note} → Good nothing (record { state = s₁; next = Rest; note = x; ending = Some (record { sequence = e.sequence; ending = c }); order = None; read = 0 })
+        good_dropped c = record { after = record { live = live_ended s₁ e.sequence c arrived; stands = h; orders = tt } }
 
         good_signal : Good nothing (on_signal f s₁ e)
         unfolding on_signal
         good_signal =
             either (Good nothing) _ (λ _. good _ refl (record { leads = record { live = arrived; stands = h } }))
-            (λ _. either (Good nothing) _ (λ _. good_dropped end_overflow refl)
+            (λ _. either (Good nothing) _ (λ _. good_dropped end_overflow)
             (λ r. good _ refl (leads_rest _ (live_appended (leb-false _ _ r)) (stands_appended s₁ (arrival e) h))))
 
       good_ended : Stands s₁ → Good nothing (on_ended s₁ e)
       unfolding on_ended
-      good_ended h = either (Good nothing) _ (λ k. good_dropped k h end_ignored refl) (λ n. good _ refl (leads_rest s₁ (live n) h))
+      good_ended h = either (Good nothing) _ (λ k. good_dropped k h end_ignored) (λ n. good _ refl (leads_rest s₁ (live n) h))
 
       pub good_react : Good nothing (apply f s₀ e)
       unfolding react
@@ -447,10 +449,10 @@ module _ (f : Workflow) (s : State) (e : Event) where
 
   -- A RESULT without the notes 1 to 3 is heard.
   record Tells (v : Move) : Type 0 where
-    tells : plain v.note ≡ true → heard f s e ≡ true
+    tells : every plain (added [] v.note) ≡ true → heard f s e ≡ true
 
   tells_result : eqb e.kind activity_result ≡ true → Tells (react f s e)
-  unfolding react on_ended on_result plain ◌and◌
+  unfolding react on_ended on_result added every plain ◌and◌
   tells_result k =
       either Tells _ (λ _. either Tells _ (λ _. record { tells = λ p. absurd (false≢true p) }) (λ _. record { tells = λ p. absurd (false≢true p) }))
       (λ o. either Tells _ (λ x. absurd (omega (arith, eqb-true e.kind activity_result k, eqb-true e.kind run_started x)))
@@ -459,5 +461,5 @@ module _ (f : Workflow) (s : State) (e : Event) where
       (λ _. either Tells _ (λ _. record { tells = λ p. absurd (false≢true p) }) (λ a. record { tells = λ _. join _ _ k (join _ _ (ap not o) (not-false _ a)) }))
       (λ x. absurd (false≢true (sym x ∙ k))))))
 
-  pub hears : eqb e.kind activity_result ≡ true → plain (react f s e).note ≡ true → heard f s e ≡ true
+  pub hears : eqb e.kind activity_result ≡ true → every plain (added [] (react f s e).note) ≡ true → heard f s e ≡ true
   hears k = (tells_result k).tells

@@ -1,24 +1,24 @@
 -- Where an attempt is open, it is the one that the call orders, or it was open before: what every move keeps of it.
-use Rattle.std.specs.Prelude.{◌≡◌, Bool, false, [], ◌∷◌, ℕ, eqb, Option, Some, None}
+use Rattle.std.specs.Prelude.{◌≡◌, Bool, false, [], ◌∷◌, ℕ, eqb, Option, Some, None, Result, Ok, Err}
 use Rattle.std.proofs.Math.Path.{refl}
 use Rattle.laws.specs.Bool.{when◌then◌else◌, either}
 use Rattle.workflow.specs.View.{Workflow}
 use Rattle.model.specs.Code.{scheduled}
 use Rattle.model.specs.declared.ErrorInfo.{ErrorInfo}
 use Rattle.model.specs.declared.Output.{Output}
-use Rattle.model.specs.declared.Kept.{Kept}
 use Rattle.model.specs.declared.BufferedSignal.{BufferedSignal}
 use Rattle.model.specs.declared.InvocationState.{InvocationState}
 use Rattle.model.specs.declared.State.{State}
 use Rattle.model.specs.declared.event.Event.{Event}
 use Rattle.model.specs.declared.event.Mappings.{Mappings}
-use Rattle.model.specs.declared.event.Evaluated.{Evaluated}
+use Rattle.model.specs.declared.event.NoValue.{NoValue}
+use Rattle.model.specs.declared.event.NoValue.TheVariants.{Fault, Unencodable, Lacking}
 use Rattle.model.specs.declared.answer.Order.{Order}
 use Rattle.model.specs.declared.moves.Next.{Next}
 use Rattle.model.specs.declared.moves.Next.TheVariants.{Rest, Enter, Take, Consume, Wants, Refuse}
 use Rattle.model.specs.declared.moves.Move.{Move}
 use Rattle.model.specs.Store.{removed, appended}
-use Rattle.model.specs.Step.{arrival, terminate, evaluate, schedule, enter_activity, enter_await, enter_complete, arrive, enter, follow_to, route_limited, route, take_by, take, retry}
+use Rattle.model.specs.Step.{arrival, terminate, evaluate, without_value, schedule, enter_activity, enter_await, enter_complete, arrive, enter, follow_to, route_limited, route, take_by, take, retry}
 use Rattle.machine.specs.Events.{not_applicable, complete_invocation, stick, fail_invocation, on_signal, on_success, on_failure, on_unknown, on_result, resolve_as_complete, resolve_as_fail, on_resolved, on_ended, react}
 use Rattle.demand3.specs.Demand3.{Attempt, attempt, ordered_by}
 use Rattle.demand3.proofs.Tidy.{Missed, rests, consumes}
@@ -28,18 +28,18 @@ abbrev pub its_attempt : InvocationState → Attempt
 its_attempt i = attempt i.node i.visit i.attempt
 
 -- No attempt is open; the open one is ordered by o; or it is the invocation that was there before.
-pub data Opened (before i : InvocationState) (o : Order) : Type 0 where
+pub data Opened (before i : InvocationState) (o : Option Order) : Type 0 where
   closed : eqb i.phase scheduled ≡ false → Opened before i o
   orders_it : ordered_by o ≡ its_attempt i ∷ [] → Opened before i o
   as_before : i ≡ before → Opened before i o
 
 module _ (f : Workflow) (before : InvocationState) where
   -- After a move, by what comes next: only one that rests leaves an order.
-  abbrev pub After : State → Order → Next → Type 0
+  abbrev pub After : State → Option Order → Next → Type 0
   After s o Rest = Opened before s.invocation o
-  After s o (Enter n b) = Opened before s.invocation Order.Nothing
-  After s o Take = Opened before s.invocation Order.Nothing
-  After s o Consume = Opened before s.invocation Order.Nothing
+  After s o (Enter n b) = Opened before s.invocation None
+  After s o Take = Opened before s.invocation None
+  After s o Consume = Opened before s.invocation None
   After s o (Wants n i b) = Unit {0}
   After s o (Refuse k) = Unit {0}
 
@@ -48,7 +48,7 @@ module _ (f : Workflow) (before : InvocationState) where
 
   -- what is open before a move
   abbrev pub Still : State → Type 0
-  Still s = Opened before s.invocation Order.Nothing
+  Still s = Opened before s.invocation None
 
   good_if : (b : Bool) {x y : Move} → Good x → Good y → Good (when b then x else y)
   good_if b p q = either Good b (λ _. p) (λ _. q)
@@ -57,12 +57,12 @@ module _ (f : Workflow) (before : InvocationState) where
   unfolding terminate
   good_terminate s x = record { after = closed refl }
 
-  good_evaluate : (a : Evaluated) (s : State) (n i b r : ℕ) (k : ℕ → Move) → ((x : ℕ) → Good (k x)) → Good (evaluate f a s n i b r k)
-  unfolding evaluate
-  good_evaluate (Evaluated.Value x) s n i b r k g = g x
-  good_evaluate (Evaluated.Fault c d) s n i b r k g = record { after = (good_terminate s _).after }
-  good_evaluate Evaluated.Unencodable s n i b r k g = record { after = tt }
-  good_evaluate Evaluated.Lacking s n i b r k g = record { after = tt }
+  good_evaluate : (a : Result ℕ NoValue) (s : State) (n i b r : ℕ) (k : ℕ → Move) → ((x : ℕ) → Good (k x)) → Good (evaluate f a s n i b r k)
+  unfolding evaluate without_value
+  good_evaluate (Ok x) s n i b r k g = g x
+  good_evaluate (Err (Fault c d)) s n i b r k g = record { after = (good_terminate s _).after }
+  good_evaluate (Err Unencodable) s n i b r k g = record { after = tt }
+  good_evaluate (Err Lacking) s n i b r k g = record { after = tt }
 
   -- the attempt that is opened is the one that is ordered
   good_arrive : (s : State) (n b : ℕ) (m : Mappings) → Good (arrive f s n b m)
@@ -112,10 +112,10 @@ module _ (f : Workflow) (before : InvocationState) where
   unfolding fail_invocation stick
   good_fail s k d p = good_if _ (good_complete s _ _) (good_if _ (record { after = closed refl }) (good_terminate s _))
 
-  good_resolve_as_fail : (x : Kept) (s : State) (e : Event) → Good (resolve_as_fail f x s e)
+  good_resolve_as_fail : (x : Option ErrorInfo) (s : State) (e : Event) → Good (resolve_as_fail f x s e)
   unfolding resolve_as_fail
-  good_resolve_as_fail (Kept.Error x) s e = good_terminate s x
-  good_resolve_as_fail Kept.Nothing s e = good_fail s _ _ _
+  good_resolve_as_fail (Some x) s e = good_terminate s x
+  good_resolve_as_fail None s e = good_fail s _ _ _
 
   -- THE STORE holds no invocation.
   pub still_removed : (s : State) (i : ℕ) → Still s → Still (removed s i)

@@ -1,5 +1,5 @@
 -- Every move keeps the run check: what it hands back is tidy, and where it rests the run stands as it should.
-use Rattle.std.specs.Prelude.{◌≡◌, ◌⊎◌, Bool, false, List, ℕ, ◌+◌, ◌≤◌, ◌<◌, length, get_or, eqb, leb, ltb, Option, Some, None, is_some}
+use Rattle.std.specs.Prelude.{is_some, ◌≡◌, ◌⊎◌, Bool, false, List, ℕ, ◌+◌, ◌≤◌, ◌<◌, length, get_or, eqb, leb, ltb, Option, Some, None, Result, Ok, Err}
 use Rattle.std.proofs.Math.Path.{refl, sym}
 use Rattle.std.proofs.Common.{◌∙◌, ap, get_or-set_same}
 use Rattle.std.proofs.Math.Logic.{inl, inr}
@@ -20,7 +20,6 @@ use Rattle.workflow.specs.Sound.{Sound}
 use Rattle.workflow.specs.declared.refusal.Refusal.{Refusal}
 use Rattle.model.specs.declared.ErrorInfo.{ErrorInfo}
 use Rattle.model.specs.declared.Output.{Output}
-use Rattle.model.specs.declared.Kept.{Kept}
 use Rattle.model.specs.declared.BufferedSignal.{BufferedSignal}
 use Rattle.model.specs.declared.Visits.{Visits}
 use Rattle.model.specs.declared.Streak.{Streak}
@@ -29,14 +28,14 @@ use Rattle.model.specs.declared.Position.{Position}
 use Rattle.model.specs.declared.State.{State}
 use Rattle.model.specs.declared.event.Event.{Event}
 use Rattle.model.specs.declared.event.Mappings.{Mappings}
-use Rattle.model.specs.declared.event.Evaluated.{Evaluated}
-use Rattle.model.specs.declared.answer.Params.{Params}
+use Rattle.model.specs.declared.event.NoValue.{NoValue}
+use Rattle.model.specs.declared.event.NoValue.TheVariants.{Fault, Unencodable, Lacking}
 use Rattle.model.specs.declared.moves.Next.{Next}
 use Rattle.model.specs.declared.moves.Next.TheVariants.{Rest, Enter, Take, Consume, Wants, Refuse}
 use Rattle.model.specs.declared.moves.Move.{Move}
 use Rattle.model.specs.Record.{no_visits, no_streak, no_node_result, no_invocation, fresh, visits_of, streak_of, is_terminal, set_signals, set_visits, set_results, set_streaks, with_streak, with_result, seen, placed, finished}
 use Rattle.model.specs.Store.{listed, removed, appended, leaves_over, signals_fit}
-use Rattle.model.specs.Step.{still, position, one_more_visit, phased, arrival, terminate, evaluate, schedule, enter_activity, enter_await, enter_complete, arrive, enter, follow_to, follow, route_limited, route, signal_outcome, take_by, take as take_signal, retry}
+use Rattle.model.specs.Step.{still, position, one_more_visit, phased, arrival, terminate, evaluate, without_value, schedule, enter_activity, enter_await, enter_complete, arrive, enter, follow_to, follow, route_limited, route, signal_outcome, take_by, take as take_signal, retry}
 use Rattle.machine.specs.Events.{named, applies, not_applicable, complete_invocation, stick, fail_invocation, on_signal, on_success, on_failure, on_unknown, on_result, resolve_as_complete, resolve_as_fail, on_resolved, on_ended, react}
 use Rattle.snapshot.specs.Check.{result_unused, result_fits, streak_fits, slot_fits, slots_fit, counters_fit, keeps_error, is_no_invocation, result_of_status, phase_fits, waits, works, stands, consistent}
 use Rattle.model.specs.StoreLaws.{appended_room, slotted_appended, fits_appended, removed_at, slotted_removed, fits_removed, fits_few}
@@ -234,7 +233,7 @@ module _ (f : Workflow) where
   IsOwned s = Owned s.position s.invocation.node s.invocation.visit s.invocation.action
 
   -- The status goes with the phase and with the error that is kept.
-  abbrev in_phase : (status phase : ℕ) → Kept → Bool
+  abbrev in_phase : (status phase : ℕ) → Option ErrorInfo → Bool
   in_phase k p e = not (is_terminal k) and not (eqb k waiting) and (when keeps_error e then eqb p stuck else not (eqb p stuck)) and phase_fits f k p
 
   stands_at_work : (s : State) → IsHere s → IsOwned s → 0 < s.invocation.attempt → in_phase s.status s.invocation.phase s.invocation.error ≡ true → stands f s ≡ true
@@ -287,18 +286,18 @@ module _ (f : Workflow) where
     keep_streak x h = keep_slots _ on.tidy.visit_slots on.tidy.result_slots (slots_set n x (in_sheet _ _ h) on.tidy.streak_slots)
 
   -- A NODE IS ENTERED
-  good_evaluate : (a : Evaluated) (s : State) (n i b r : ℕ) (k : ℕ → Move) → Tidies f s → ((x : ℕ) → Good (k x)) → Good (evaluate f a s n i b r k)
-  unfolding evaluate
-  good_evaluate (Evaluated.Value x) s n i b r k t h = h x
-  good_evaluate (Evaluated.Fault c d) s n i b r k t h = record { after = (good_terminate s _ t).after }
-  good_evaluate Evaluated.Unencodable s n i b r k t h = record { after = inr refl }
-  good_evaluate Evaluated.Lacking s n i b r k t h = record { after = t }
+  good_evaluate : (a : Result ℕ NoValue) (s : State) (n i b r : ℕ) (k : ℕ → Move) → Tidies f s → ((x : ℕ) → Good (k x)) → Good (evaluate f a s n i b r k)
+  unfolding evaluate without_value
+  good_evaluate (Ok x) s n i b r k t h = h x
+  good_evaluate (Err (Fault c d)) s n i b r k t h = record { after = (good_terminate s _ t).after }
+  good_evaluate (Err Unencodable) s n i b r k t h = record { after = inr refl }
+  good_evaluate (Err Lacking) s n i b r k t h = record { after = t }
 
   module _ (s : State) (n : ℕ) (on : On s n) (visited : 0 < (visits_of s n).count) where
     arrived : Here s.result.output s.visits (position n (visits_of s n).count)
     arrived = record { unended = on.unended; inside = on.inside; visited = visited; last = refl }
 
-    good_schedule : (x : ℕ) (p : Params) → (node_of f n).kind ≡ activity → Good (schedule f s n x p)
+    good_schedule : (x : ℕ) (p : Option ℕ) → (node_of f n).kind ≡ activity → Good (schedule f s n x p)
     unfolding schedule
     good_schedule x p k =
         record {
@@ -414,7 +413,7 @@ module _ (f : Workflow) where
           owned : (IsOwned s) × (0 < s.invocation.attempt)
           owned = owned_of s called (here_of s live as_is.well).1
 
-          after_phased : (k p a : ℕ) (x : Kept) → s.invocation.attempt ≤ a → in_phase k p x ≡ true → After (placed s k s.position (phased s.invocation p a x)) Rest
+          after_phased : (k p a : ℕ) (x : Option ErrorInfo) → s.invocation.attempt ≤ a → in_phase k p x ≡ true → After (placed s k s.position (phased s.invocation p a x)) Rest
           after_phased k p a x h e = record { tidy = as_is.tidy; well = stands_at_work _ here owned.0 (omega (arith, owned.1)) e }
 
           good_retry : (delay : ℕ) → Good (retry f s delay)
@@ -424,11 +423,11 @@ module _ (f : Workflow) where
               (λ _. record { after = inl refl })
               (λ _. either Good _
               (λ _. record { after = inl refl })
-              (λ _. record { after = after_phased running scheduled _ Kept.Nothing (omega arith) (unfold is_terminal when◌then◌else◌ ◌and◌ ◌or◌ in refl) }))
+              (λ _. record { after = after_phased running scheduled _ None (omega arith) (unfold is_terminal when◌then◌else◌ ◌and◌ ◌or◌ in refl) }))
 
           good_stick : (e : ErrorInfo) → is_0_2 f ≡ true → Good (stick s e)
           unfolding stick
-          good_stick e h = record { after = after_phased needs_intervention stuck _ (Kept.Error e) (omega arith) (unfold is_terminal when◌then◌else◌ ◌and◌ ◌or◌ in h) }
+          good_stick e h = record { after = after_phased needs_intervention stuck _ (Some e) (omega arith) (unfold is_terminal when◌then◌else◌ ◌and◌ ◌or◌ in h) }
 
           good_fail : (k d : ℕ) (p : Bool) → Good (fail_invocation f s k d p)
           unfolding fail_invocation
@@ -449,13 +448,13 @@ module _ (f : Workflow) where
           unfolding on_unknown
           good_unknown e =
               either Good _
-              (λ _. record { after = after_phased needs_intervention unknown _ Kept.Nothing (omega arith) (unfold is_terminal when◌then◌else◌ ◌and◌ ◌or◌ in refl) })
+              (λ _. record { after = after_phased needs_intervention unknown _ None (omega arith) (unfold is_terminal when◌then◌else◌ ◌and◌ ◌or◌ in refl) })
               (λ _. either Good _ (λ _. good_retry _) (λ _. good_fail _ _ _))
 
-          good_resolve_as_fail : (x : Kept) (e : Event) → Good (resolve_as_fail f x s e)
+          good_resolve_as_fail : (x : Option ErrorInfo) (e : Event) → Good (resolve_as_fail f x s e)
           unfolding resolve_as_fail
-          good_resolve_as_fail (Kept.Error k) e = good_terminate s k as_is.tidy
-          good_resolve_as_fail Kept.Nothing e = good_fail _ _ _
+          good_resolve_as_fail (Some k) e = good_terminate s k as_is.tidy
+          good_resolve_as_fail None e = good_fail _ _ _
 
         called_by : (e : Event) → named s.invocation e ≡ true → eqb s.invocation.phase 0 ≡ false
         unfolding named

@@ -1,7 +1,7 @@
 -- Demand 3: one claim about every list of calls on one sheet (document 01, "The list of demand 3").
 -- A reader needs of other files: `transition` (kernel, Call), the run check `consistent` (snapshot, Check), the words that count (Words) and the count of microsteps
 -- `begun` (Steps).
-use Rattle.std.specs.Prelude.{◌≡◌, true, List, [], ◌∷◌, ◌++◌, ℕ, ◌+◌, ◌≤◌, eqb, Some, None}
+use Rattle.std.specs.Prelude.{◌≡◌, true, List, [], ◌∷◌, ◌++◌, ℕ, ◌+◌, ◌≤◌, eqb, Option, Some, None}
 use Rattle.laws.specs.Bool.{when◌then◌else◌, ◌and◌}
 use Rattle.laws.specs.Every.{every}
 use Rattle.laws.specs.All.{All, Distinct}
@@ -69,10 +69,10 @@ pub record Attempt : Type 0 where
 abbrev pub attempt : (node visit attempt : ℕ) → Attempt
 attempt node visit number = record { node = node; visit = visit; attempt = number }
 
-abbrev pub ordered_by : Order → List Attempt
-ordered_by Order.Nothing = []
-ordered_by (Order.Schedule order) = attempt order.node order.visit order.attempt ∷ []
-ordered_by (Order.Retry order) = attempt order.node order.visit order.attempt ∷ []
+abbrev pub ordered_by : Option Order → List Attempt
+ordered_by None = []
+ordered_by (Some (Order.Schedule order)) = attempt order.node order.visit order.attempt ∷ []
+ordered_by (Some (Order.Retry order)) = attempt order.node order.visit order.attempt ∷ []
 
 unfoldable pub ordered : List Done → List Attempt
 ordered [] = []

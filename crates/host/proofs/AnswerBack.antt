@@ -1,5 +1,5 @@
 -- A written answer is read as the answer: what a host finds in its buffer is what the definition says.
-use Rattle.std.specs.Prelude.{◌≡◌, ℕ, ◌+◌, ◌^◌, ◌≤◌, ◌<◌, ltb, get_or, take, drop, replicate}
+use Rattle.std.specs.Prelude.{◌≡◌, ℕ, ◌+◌, ◌^◌, ◌≤◌, ◌<◌, ltb, get_or, take, drop, replicate, Option, Some, None}
 use Rattle.std.proofs.Math.Path.{refl}
 use Rattle.std.proofs.Common.{◌∙◌, length-append, get_or-append-add, ltb-true, ltb-false, eq-eqb}
 use mathlib.Core.List.{List, [], ◌∷◌, ◌++◌, flat_map, append_assoc}
@@ -16,7 +16,6 @@ use Rattle.workflow.specs.declared.refusal.Refusal.{Refusal}
 use Rattle.workflow.specs.Refusal.{number, refusal_of}
 use Rattle.laws.specs.First.{first}
 use Rattle.model.specs.declared.State.{State}
-use Rattle.model.specs.declared.answer.Params.{Params}
 use Rattle.model.specs.declared.answer.Order.{Order}
 use Rattle.model.specs.declared.answer.Answer as code
 use Rattle.model.specs.Answers.{params_numbers, order_numbers, answer_numbers}
@@ -38,16 +37,16 @@ use Rattle.host.proofs.Lists.{span_list, row_at, length_padded, padded_at}
 use Rattle.host.proofs.RoundBack.{record_back_of, record_numbers_length}
 
 -- THE ORDER behind the answer's first two numbers.
-params_back : (x : Params) (rest : List ℕ) → params_from (at (params_numbers x ++ rest) 0) (at (params_numbers x ++ rest) 1) ≡ x
+params_back : (x : Option ℕ) (rest : List ℕ) → params_from (at (params_numbers x ++ rest) 0) (at (params_numbers x ++ rest) 1) ≡ x
 unfolding params_numbers when◌then◌else◌
-params_back Params.Nothing rest = refl
-params_back (Params.Handle x) rest = refl
+params_back None rest = refl
+params_back (Some x) rest = refl
 
-order_back : (a b : ℕ) (x : Order) (rest : List ℕ) → order_from (a ∷ b ∷ (order_numbers x ++ rest)) ≡ x
+order_back : (a b : ℕ) (x : Option Order) (rest : List ℕ) → order_from (a ∷ b ∷ (order_numbers x ++ rest)) ≡ x
 unfolding order_from order_numbers when◌then◌else◌
-order_back a b Order.Nothing rest = refl
-order_back a b (Order.Schedule x) rest = rw (params_back x.params rest)
-order_back a b (Order.Retry x) rest = refl
+order_back a b None rest = refl
+order_back a b (Some (Order.Schedule x)) rest = rw (params_back x.params rest)
+order_back a b (Some (Order.Retry x)) rest = refl
 
 -- The numbers of the state, whose arrays are whole.
 length_state : (a : code.Answer) (s : State) → Whole s → length (state_numbers a s) ≡ record_length

@@ -1,5 +1,5 @@
 -- What a passed test says of numbers, and numbers that pass it.
-use Rattle.std.specs.Prelude.{◌≡◌, Bool, true, false, ◌&&◌, List, [], ◌∷◌, ◌++◌, ℕ, ◌^◌, ◌<◌, length, get_or, eqb}
+use Rattle.std.specs.Prelude.{◌≡◌, Bool, true, false, ◌&&◌, List, [], ◌∷◌, ◌++◌, ℕ, ◌^◌, ◌<◌, length, get_or, eqb, Option, Some, None}
 use Rattle.std.proofs.Math.Path.{refl}
 use Rattle.std.proofs.lemmas.Bool.{false≢true}
 use Rattle.std.proofs.Common.{mod-eq_of_lt, arith}
@@ -9,7 +9,6 @@ use Rattle.laws.specs.Bool.{when◌then◌else◌, split}
 use Rattle.laws.specs.All.{All}
 use Rattle.model.specs.declared.ErrorInfo.{ErrorInfo}
 use Rattle.model.specs.declared.Output.{Output}
-use Rattle.model.specs.declared.Kept.{Kept}
 use Rattle.model.specs.Answers.{output_numbers, kept_numbers}
 use Rattle.host.specs.Read.{at, narrow, error_of, output_of, kept_of, Field, field_fits, all_fit, output_fits, kept_fits}
 use Rattle.host.specs.Fits.{Number, Name, Code, ErrorFits, OutputFits, KeptFits}
@@ -137,10 +136,10 @@ module _ (rest : List ℕ) where
   output_back (Output.Handle x) f = rw (small x f)
   output_back (Output.Error e) f = rw (error_back e f)
 
-  pub kept_back : (x : Kept) → KeptFits x → kept_of (at (kept_numbers x ++ rest) 0) (at (kept_numbers x ++ rest) 1) (at (kept_numbers x ++ rest) 2) (at (kept_numbers x ++ rest) 3) ≡ x
+  pub kept_back : (x : Option ErrorInfo) → KeptFits x → kept_of (at (kept_numbers x ++ rest) 0) (at (kept_numbers x ++ rest) 1) (at (kept_numbers x ++ rest) 2) (at (kept_numbers x ++ rest) 3) ≡ x
   unfolding kept_of kept_numbers when◌then◌else◌
-  kept_back Kept.Nothing f = refl
-  kept_back (Kept.Error e) f = rw (error_back e f)
+  kept_back None f = refl
+  kept_back (Some e) f = rw (error_back e f)
 
   pub output_fit : (x : Output) → OutputFits x → output_fits (at (output_numbers x ++ rest) 0) (at (output_numbers x ++ rest) 1) (at (output_numbers x ++ rest) 2) (at (output_numbers x ++ rest) 3) ≡ true
   unfolding output_fits output_numbers when◌then◌else◌
@@ -148,7 +147,7 @@ module _ (rest : List ℕ) where
   output_fit (Output.Handle x) f = rw (lt-ltb x (2 ^ 32) f)
   output_fit (Output.Error e) f = rw (lt-ltb e.code 65536 f.code, lt-ltb e.node 256 f.node, lt-ltb e.detail (2 ^ 32) f.detail)
 
-  pub kept_fit : (x : Kept) → KeptFits x → kept_fits (at (kept_numbers x ++ rest) 0) (at (kept_numbers x ++ rest) 1) (at (kept_numbers x ++ rest) 2) (at (kept_numbers x ++ rest) 3) ≡ true
+  pub kept_fit : (x : Option ErrorInfo) → KeptFits x → kept_fits (at (kept_numbers x ++ rest) 0) (at (kept_numbers x ++ rest) 1) (at (kept_numbers x ++ rest) 2) (at (kept_numbers x ++ rest) 3) ≡ true
   unfolding kept_fits kept_numbers when◌then◌else◌
-  kept_fit Kept.Nothing f = refl
-  kept_fit (Kept.Error e) f = rw (lt-ltb e.code 65536 f.code, lt-ltb e.node 256 f.node, lt-ltb e.detail (2 ^ 32) f.detail)
+  kept_fit None f = refl
+  kept_fit (Some e) f = rw (lt-ltb e.code 65536 f.code, lt-ltb e.node 256 f.node, lt-ltb e.detail (2 ^ 32) f.detail)

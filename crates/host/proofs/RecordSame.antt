@@ -1,10 +1,10 @@
 -- Records of the same numbers are the same. So a record is read back from its numbers wherever these fit.
-use Rattle.std.specs.Prelude.{◌≡◌, refl, true, ℕ, eqb, length, take, drop}
+use Rattle.std.specs.Prelude.{◌≡◌, refl, true, ℕ, eqb, length, take, drop, Option, Some, None}
 use Rattle.std.proofs.Common.{sym, ap, ◌∙◌, arith, take_at, drop_at}
 use mathlib.Core.List.{List, [], ◌∷◌, ◌++◌, flat_map, append_assoc}
 use Rattle.laws.specs.Bool.{when◌then◌else◌}
 use Rattle.model.specs.declared.Output.{Output}
-use Rattle.model.specs.declared.Kept.{Kept}
+use Rattle.model.specs.declared.ErrorInfo.{ErrorInfo}
 use Rattle.model.specs.declared.BufferedSignal.{BufferedSignal}
 use Rattle.model.specs.declared.Visits.{Visits}
 use Rattle.model.specs.declared.Streak.{Streak}
@@ -62,15 +62,15 @@ output_known (Output.Error x) = refl
 output_same : (x y : Output) → output_numbers x ≡ output_numbers y → x ≡ y
 output_same x y e = sym (output_known x) ∙ ap output_from e ∙ output_known y
 
-kept_from : List ℕ → Kept
-kept_from ns = when eqb (at ns 0) 0 then Kept.Nothing else Kept.Error (record { code = at ns 1; node = at ns 2; detail = at ns 3 })
+kept_from : List ℕ → Option ErrorInfo
+kept_from ns = when eqb (at ns 0) 0 then None else Some (record { code = at ns 1; node = at ns 2; detail = at ns 3 })
 
-kept_known : (x : Kept) → kept_from (kept_numbers x) ≡ x
+kept_known : (x : Option ErrorInfo) → kept_from (kept_numbers x) ≡ x
 unfolding kept_numbers kept_from when◌then◌else◌
-kept_known Kept.Nothing = refl
-kept_known (Kept.Error x) = refl
+kept_known None = refl
+kept_known (Some x) = refl
 
-kept_same : (x y : Kept) → kept_numbers x ≡ kept_numbers y → x ≡ y
+kept_same : (x y : Option ErrorInfo) → kept_numbers x ≡ kept_numbers y → x ≡ y
 kept_same x y e = sym (kept_known x) ∙ ap kept_from e ∙ kept_known y
 
 result_same : (x y : NodeResult) → result_numbers x ≡ result_numbers y → x ≡ y
@@ -80,7 +80,7 @@ result_same x y e =
     ap (λ (ns : List ℕ). record { visit = at ns 0; outcome = at ns 1; output = x.output }) e ∙ ap (λ (o : Output). record { visit = y.visit; outcome = y.outcome; output = o }) o
 
 -- The single fields of a record by its numbers, and all else as it is.
-state_from : List ℕ → Kept → Output → ℕ → List BufferedSignal → List Visits → List Streak → List NodeResult → State
+state_from : List ℕ → Option ErrorInfo → Output → ℕ → List BufferedSignal → List Visits → List Streak → List NodeResult → State
 state_from ns kept output count signals visits streaks results =
     record {
       signals = signals;

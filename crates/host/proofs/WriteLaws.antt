@@ -1,14 +1,13 @@
 -- How many numbers each part of an answer has, and parts written one behind the other.
-use Rattle.std.specs.Prelude.{◌≡◌, refl, ℕ, ◌+◌, ◌*◌, ◌≤◌, length, get_or}
+use Rattle.std.specs.Prelude.{◌≡◌, refl, ℕ, ◌+◌, ◌*◌, ◌≤◌, length, get_or, Option, Some, None}
 use Rattle.std.proofs.Common.{◌∙◌, ap, arith, length-append}
 use mathlib.Core.List.{List, [], ◌∷◌, ◌++◌, flat_map, append_assoc, append-nil}
 use Rattle.std.proofs.lemmas.List.{get_or_at}
 use Rattle.laws.specs.Rows.{rows, rows_all}
 use Rattle.laws.specs.Splice.{splice, splice_more, length_flat}
-use Rattle.model.specs.declared.Kept.{Kept}
+use Rattle.model.specs.declared.ErrorInfo.{ErrorInfo}
 use Rattle.model.specs.declared.NodeResult.{NodeResult}
 use Rattle.model.specs.declared.State.{State}
-use Rattle.model.specs.declared.answer.Params.{Params}
 use Rattle.model.specs.declared.answer.Order.{Order}
 use Rattle.model.specs.declared.answer.Answer.{Answer}
 use Rattle.model.specs.Answers.{output_numbers, kept_numbers, params_numbers, order_numbers, answer_numbers}
@@ -16,21 +15,21 @@ use Rattle.host.specs.Layout.{store, nodes, error_width, record_error, record_st
 use Rattle.host.specs.Write.{signal_numbers, visits_numbers, streak_numbers, result_numbers, scalar_numbers, head_numbers, record_numbers}
 pub use Rattle.host.specs.RowLaws.{length_output, length_signal, length_visits, length_streak, length_result, length_note, length_ending}
 
-pub length_kept : (x : Kept) → length (kept_numbers x) ≡ error_width
+pub length_kept : (x : Option ErrorInfo) → length (kept_numbers x) ≡ error_width
 unfolding kept_numbers
-length_kept Kept.Nothing = refl
-length_kept (Kept.Error e) = refl
+length_kept None = refl
+length_kept (Some e) = refl
 
-length_params : (x : Params) → length (params_numbers x) ≡ 2
+length_params : (x : Option ℕ) → length (params_numbers x) ≡ 2
 unfolding params_numbers
-length_params Params.Nothing = refl
-length_params (Params.Handle x) = refl
+length_params None = refl
+length_params (Some x) = refl
 
-length_order : (x : Order) → length (order_numbers x) ≡ 9
+length_order : (x : Option Order) → length (order_numbers x) ≡ 9
 unfolding order_numbers
-length_order Order.Nothing = refl
-length_order (Order.Schedule x) = rw (length_params x.params)
-length_order (Order.Retry x) = refl
+length_order None = refl
+length_order (Some (Order.Schedule x)) = rw (length_params x.params)
+length_order (Some (Order.Retry x)) = refl
 
 pub length_answer : (x : Answer) → length (answer_numbers x) ≡ answer_noted
 unfolding answer_numbers

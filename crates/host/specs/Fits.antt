@@ -1,9 +1,8 @@
 -- What the fields of a run record, of a call and of an answer can hold.
-use Rattle.std.specs.Prelude.{◌≡◌, ℕ, ◌^◌, ◌≤◌, ◌<◌, length}
+use Rattle.std.specs.Prelude.{◌≡◌, ℕ, ◌^◌, ◌≤◌, ◌<◌, length, Option, Some, None}
 use Rattle.laws.specs.All.{All}
 use Rattle.model.specs.declared.ErrorInfo.{ErrorInfo}
 use Rattle.model.specs.declared.Output.{Output}
-use Rattle.model.specs.declared.Kept.{Kept}
 use Rattle.model.specs.declared.BufferedSignal.{BufferedSignal}
 use Rattle.model.specs.declared.Visits.{Visits}
 use Rattle.model.specs.declared.Streak.{Streak}
@@ -39,9 +38,9 @@ OutputFits Output.Nothing = Unit {0}
 OutputFits (Output.Handle handle) = Number handle
 OutputFits (Output.Error error) = ErrorFits error
 
-abbrev pub KeptFits : Kept → Type 0
-KeptFits Kept.Nothing = Unit {0}
-KeptFits (Kept.Error error) = ErrorFits error
+abbrev pub KeptFits : Option ErrorInfo → Type 0
+KeptFits None = Unit {0}
+KeptFits (Some error) = ErrorFits error
 
 pub record SignalFits (stored : BufferedSignal) : Type 0 where
   pub event_id : Number stored.event_id

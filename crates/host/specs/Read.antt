@@ -1,12 +1,11 @@
 -- How the lent numbers of a run record and of a call are read (docs/NUMBERS.md), and which numbers their fields can hold.
-use Rattle.std.specs.Prelude.{Bool, ◌&&◌, List, [], ◌∷◌, ℕ, ◌+◌, ◌%◌, ◌^◌, get_or, ltb, eqb}
+use Rattle.std.specs.Prelude.{Bool, ◌&&◌, List, [], ◌∷◌, ℕ, ◌+◌, ◌%◌, ◌^◌, get_or, ltb, eqb, Option, Some, None}
 use Rattle.laws.specs.Bool.{when◌then◌else◌}
 use Rattle.laws.specs.Rows.{span}
 use Rattle.laws.specs.Every.{every, below}
 use Rattle.graph.specs.declared.Ceilings.{Ceilings}
 use Rattle.model.specs.declared.ErrorInfo.{ErrorInfo}
 use Rattle.model.specs.declared.Output.{Output}
-use Rattle.model.specs.declared.Kept.{Kept}
 use Rattle.model.specs.declared.BufferedSignal.{BufferedSignal}
 use Rattle.model.specs.declared.Visits.{Visits}
 use Rattle.model.specs.declared.Streak.{Streak}
@@ -38,8 +37,8 @@ output_of tag first second third =
     when eqb tag 0 then Output.Nothing else
     when eqb tag 1 then Output.Handle (narrow first) else Output.Error (error_of first second third)
 
-unfoldable pub kept_of : (tag first second third : ℕ) → Kept
-kept_of tag first second third = when eqb tag 0 then Kept.Nothing else Kept.Error (error_of first second third)
+unfoldable pub kept_of : (tag first second third : ℕ) → Option ErrorInfo
+kept_of tag first second third = when eqb tag 0 then None else Some (error_of first second third)
 
 -- ROWS OF A RECORD.
 unfoldable pub signal_of : List ℕ → ℕ → BufferedSignal

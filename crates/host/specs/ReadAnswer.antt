@@ -1,9 +1,8 @@
 -- How a host reads the numbers of a written answer (docs/NUMBERS.md): as they stand.
-use Rattle.std.specs.Prelude.{List, ℕ, ◌+◌, drop, eqb}
+use Rattle.std.specs.Prelude.{List, ℕ, ◌+◌, drop, eqb, Option, Some, None}
 use Rattle.laws.specs.Bool.{when◌then◌else◌}
 use Rattle.laws.specs.Rows.{span}
 use Rattle.workflow.specs.Refusal.{refusal_of}
-use Rattle.model.specs.declared.answer.Params.{Params}
 use Rattle.model.specs.declared.answer.ScheduleActivity.{ScheduleActivity}
 use Rattle.model.specs.declared.answer.RetryActivity.{RetryActivity}
 use Rattle.model.specs.declared.answer.Order.{Order}
@@ -15,8 +14,8 @@ use Rattle.host.specs.Layout.{note_place, ending_place}
 use Rattle.host.specs.Read.{at, record_of}
 
 -- The order: none, a schedule, a retry.
-abbrev pub params_from : (has handle : ℕ) → Params
-params_from has handle = when eqb has 0 then Params.Nothing else Params.Handle handle
+abbrev pub params_from : (has handle : ℕ) → Option ℕ
+params_from has handle = when eqb has 0 then None else Some handle
 
 abbrev pub schedule_from : List ℕ → ScheduleActivity
 schedule_from numbers =
@@ -39,10 +38,10 @@ retry_from numbers =
       not_before = at numbers layout.answer_order_not_before;
     }
 
-unfoldable pub order_from : List ℕ → Order
+unfoldable pub order_from : List ℕ → Option Order
 order_from numbers =
-    when eqb (at numbers layout.answer_order) 0 then Order.Nothing else
-    when eqb (at numbers layout.answer_order) 1 then Order.Schedule (schedule_from numbers) else Order.Retry (retry_from numbers)
+    when eqb (at numbers layout.answer_order) 0 then None else
+    when eqb (at numbers layout.answer_order) 1 then Some (Order.Schedule (schedule_from numbers)) else Some (Order.Retry (retry_from numbers))
 
 -- A note and an ending.
 unfoldable pub note_from : List ℕ → ℕ → Note

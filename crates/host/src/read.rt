@@ -12,8 +12,8 @@ use graph::Ceilings;
 use kernel::{Call, Limits};
 use model::event::{Event, Mapping, Mappings};
 use model::{
-    BufferedSignal, ErrorInfo, InvocationState, Kept, NodeResult, Output, Position, RunResult,
-    State, Streak, Visits,
+    BufferedSignal, ErrorInfo, InvocationState, NodeResult, Output, Position, RunResult, State,
+    Streak, Visits,
 };
 
 // What a field's number must be below: any number; the name of a node, an action, a signal or an outcome; the code of an
@@ -62,13 +62,13 @@ pub(crate) fn output(tag: u64, a: u64, b: u64, c: u64) -> Output
     Output::Error(error(a, b, c))
 }
 
-fn kept(tag: u64, a: u64, b: u64, c: u64) -> Kept
+fn kept(tag: u64, a: u64, b: u64, c: u64) -> Option<ErrorInfo>
     ensures { result ≡ kept_of tag a b c }
 {
     if tag == 0 {
-        return Kept::Nothing;
+        return None;
     }
-    Kept::Error(error(a, b, c))
+    Some(error(a, b, c))
 }
 
 // How many rows are read.

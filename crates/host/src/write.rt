@@ -49,7 +49,7 @@ fn write_head(out: &mut [u64], at: usize, s: &State)
     ensures { out.new ≡ splice out.old at (head_numbers s.now) }
 {
     let first = scalars(s);
-    let kept = s.invocation.error.numbers();
+    let kept = model::kept_numbers(s.invocation.error);
     let ended = s.result.output.numbers();
     let count = [u64::from(s.signal_count)];
     write(out, at, &first);

@@ -118,14 +118,13 @@ impl fmt::Display for Place {
     }
 }
 
-// The line of an order, if there is one.
+// The line of an order.
 #[derive(Drop)]
 struct OrderLine(Order);
 
 impl fmt::Display for OrderLine {
     fn fmt<W: fmt::Write>(&self, f: &mut fmt::Formatter<W>) -> fmt::Result {
         match self.0 {
-            Order::Nothing => Ok(()),
             Order::Schedule(x) => writeln!(
                 f,
                 "  order: action {} at node {}, visit {}, attempt {}",
@@ -152,7 +151,9 @@ impl fmt::Display for Shown<'_> {
                 let status = status_word(decision.state.status);
                 let place = Place(decision.state.position);
                 writeln!(f, "{status}{place}; microsteps {microsteps}")?;
-                write!(f, "{}", OrderLine(order))?;
+                if let Some(order) = order {
+                    write!(f, "{}", OrderLine(order))?;
+                }
                 for note in decision.notes.iter().take(decision.note_count as usize) {
                     let word = NoteWord(note.code);
                     writeln!(f, "  note: {word} ({}, {}, {})", note.a, note.b, note.c)?;

@@ -1,5 +1,5 @@
 -- Where no move follows, what the code hands back is the finish of the machine that it has.
-use Rattle.std.specs.Prelude.{◌≡◌, true, ltb}
+use Rattle.std.specs.Prelude.{◌≡◌, Option, None, true, ltb}
 use Rattle.std.proofs.Math.Path.{refl, ap}
 use Rattle.std.proofs.Common.{◌∙◌, eqb-true}
 use Rattle.std.proofs.lemmas.Bool.{false≢true}
@@ -22,7 +22,6 @@ use Rattle.kernel.specs.declared.drive.Round.{Round}
 use Rattle.model.specs.declared.moves.Next.{Next}
 use Rattle.model.specs.declared.moves.Next.TheVariants.{Rest, Enter, Take, Consume, Wants, Refuse}
 use Rattle.model.specs.Store.{listed as stored_as, leaves_over}
-use Rattle.model.specs.Step.{no_note, no_ending}
 use Rattle.kernel.specs.Drive.{Machine, operations_of, consume_by, advance_by, advance}
 use Rattle.kernel.specs.Bounds.{none_more, Bounds}
 use Rattle.kernel.specs.Call.{orders, closed, finish_by, finish}
@@ -33,7 +32,7 @@ use Rattle.kernel.specs.DriveLaws.{decide, rest_answer, answer_of, is_over, List
 module _ (f : Workflow) (l : Limits) (e : Event) (m : Mappings) (v₀ : Round) where
   module _ {v : Round} {notes : List Note} {endings : List Ending} {n k q j : ℕ} (d : Listed f l e m v₀ v notes endings n k q j) where
     -- No move follows.
-    resting : (t : State) (o : Order) → k + t.signal_count ≤ 65 → decide notes endings n k t (rest_answer o l j q) ≡ decision_of (finish_by Rest l (drive.machine f l e m v₀ t Rest o d.ns d.es j q))
+    resting : (t : State) (o : Option Order) → k + t.signal_count ≤ 65 → decide notes endings n k t (rest_answer o l j q) ≡ decision_of (finish_by Rest l (drive.machine f l e m v₀ t Rest o d.ns d.es j q))
     unfolding decide rest_answer finish_by decision_of closed stored_as when◌then◌else◌
     resting t o h =
         split (ltb l.commands (orders o)) (λ a. rw a)
@@ -43,15 +42,15 @@ module _ (f : Workflow) (l : Limits) (e : Event) (m : Mappings) (v₀ : Round) w
         (λ c. rw (a, b, c, d.notes_are.is, d.notes_are.count, d.endings_are.is, d.endings_are.count))))
 
     -- With nothing stored the definition makes one more move, which says nothing.
-    waits_on : (t : State) (o : Order) → k + t.signal_count ≤ 65 → t.signal_count ≡ 0 → drive.Runs f l e m v₀ (131 - j) (drive.machine f l e m v₀ t Consume o d.ns d.es j q) → Bounds Consume (131 - j) (drive.machine f l e m v₀ t Consume o d.ns d.es j q)
-        → decide notes endings n k t (rest_answer Order.Nothing l j q) ≡ decision_of (finish l (drive.at_end f l e m v₀))
+    waits_on : (t : State) (o : Option Order) → k + t.signal_count ≤ 65 → t.signal_count ≡ 0 → drive.Runs f l e m v₀ (131 - j) (drive.machine f l e m v₀ t Consume o d.ns d.es j q) → Bounds Consume (131 - j) (drive.machine f l e m v₀ t Consume o d.ns d.es j q)
+        → decide notes endings n k t (rest_answer None l j q) ≡ decision_of (finish l (drive.at_end f l e m v₀))
     unfolding finish_by advance_by consume_by operations_of
     waits_on t o h g r b =
-        let y : drive.machine f l e m v₀ t Rest Order.Nothing d.ns d.es j q ≡ advance f (drive.limit f l e m v₀) e m (drive.machine f l e m v₀ t Consume o d.ns d.es j q) =
-        rw (none_stored t (node_of f t.position.node).signal g, none_more d.ns no_note refl, none_more d.es no_ending refl) (ap (drive.machine f l e m v₀ t Rest Order.Nothing d.ns d.es j) (omega arith)) in
-        resting t Order.Nothing h ∙ ap (λ (u : Machine). decision_of (finish l u)) (settled (settle_next r (omega (arith, b.enough)) refl refl y) refl refl)
+        let y : drive.machine f l e m v₀ t Rest None d.ns d.es j q ≡ advance f (drive.limit f l e m v₀) e m (drive.machine f l e m v₀ t Consume o d.ns d.es j q) =
+        rw (none_stored t (node_of f t.position.node).signal g, none_more d.ns refl, none_more d.es refl) (ap (drive.machine f l e m v₀ t Rest None d.ns d.es j) (omega arith)) in
+        resting t None h ∙ ap (λ (u : Machine). decision_of (finish l u)) (settled (settle_next r (omega (arith, b.enough)) refl refl y) refl refl)
 
-    ends_by : (t : State) (y : Next) (o : Order) → k + t.signal_count ≤ 65 → is_over y t.signal_count ≡ true → drive.Runs f l e m v₀ (131 - j) (drive.machine f l e m v₀ t y o d.ns d.es j q)
+    ends_by : (t : State) (y : Next) (o : Option Order) → k + t.signal_count ≤ 65 → is_over y t.signal_count ≡ true → drive.Runs f l e m v₀ (131 - j) (drive.machine f l e m v₀ t y o d.ns d.es j q)
         → Bounds y (131 - j) (drive.machine f l e m v₀ t y o d.ns d.es j q) → decide notes endings n k t (answer_of y o l j q) ≡ decision_of (finish l (drive.at_end f l e m v₀))
     unfolding is_over answer_of finish_by decide
     ends_by t Rest o w h r b = resting t o w ∙ ap (λ (u : Machine). decision_of (finish l u)) (settled r refl refl)

@@ -1,24 +1,22 @@
 -- What a call may still count and list, on every sheet and every record of at most 64 stored signals: 131 moves, 130 microsteps, 65 notes and 65 endings are enough.
-use Rattle.std.specs.Prelude.{◌≡◌, false, List, [], ◌∷◌, ℕ, suc, ◌+◌, ◌*◌, ◌≤◌, eqb, ltb, Option, Some, None}
+use Rattle.std.specs.Prelude.{◌≡◌, Option, Some, None, false, List, [], ◌∷◌, ℕ, suc, ◌+◌, ◌*◌, ◌≤◌, ltb}
 use Rattle.std.proofs.Math.Path.{refl, ap, subst}
 use Rattle.std.proofs.Common.{sym, length-append}
 use native.Mathlib.Omega.{arith}
 use Rattle.std.proofs.Math.ListN.{length}
-use Rattle.laws.specs.Bool.{when◌then◌else◌, split, either}
+use Rattle.laws.specs.Bool.{either}
 use Rattle.workflow.specs.View.{Workflow}
 use Rattle.workflow.specs.Lookup.{node_of}
 use Rattle.model.specs.declared.State.{State}
 use Rattle.model.specs.declared.event.Event.{Event}
 use Rattle.model.specs.declared.event.Mappings.{Mappings}
-use Rattle.model.specs.declared.answer.Note.{Note}
-use Rattle.model.specs.declared.answer.Ending.{Ending}
 use Rattle.model.specs.declared.moves.Next.{Next}
 use Rattle.model.specs.declared.moves.Next.TheVariants.{Rest, Enter, Take, Consume, Wants, Refuse}
 use Rattle.model.specs.declared.moves.Move.{Move}
 use Rattle.model.specs.Record.{seen}
 use Rattle.model.specs.Store.{first_signal, signal_at, removed}
 use Rattle.model.specs.StoreLaws.{first_inside}
-use Rattle.model.specs.Step.{no_note, no_ending, arrival, enter, take}
+use Rattle.model.specs.Step.{arrival, enter, take}
 use Rattle.machine.specs.Events.{apply}
 use Rattle.kernel.specs.Cost.{cost, takes, takes_small, in_hand, hand_empty, entered, costs_take, reacted, removed_count}
 use Rattle.kernel.specs.Drive.{Machine, added, moved, counting, consume_by, advance_by, advance, moves_on, started}
@@ -76,16 +74,17 @@ module _ (n : Next) (count h : ℕ) (same : (n ≡ Rest → ⊥) → count ≡ h
   at_first (Refuse k) e l a q = omega arith
 
 -- THE LISTS.
-length_added : {A : Type 0} (c : ℕ) (xs : List A) (x : A) → length (added c xs x) ≡ length xs + takes c
-unfolding added takes when◌then◌else◌
-length_added c xs x = split (eqb c 0) (λ h. rw h (omega arith)) (λ h. rw h (omega (arith, length-append xs (x ∷ []))))
+length_added : {A : Type 0} (xs : List A) (o : Option A) → length (added xs o) ≡ length xs + takes o
+unfolding added takes
+length_added xs None = omega arith
+length_added xs (Some x) = omega (arith, length-append xs (x ∷ []))
 
-one_more : {A : Type 0} (c : ℕ) (xs : List A) (x : A) → length (added c xs x) ≤ length xs + 1
-one_more c xs x = omega (arith, length_added c xs x, takes_small c)
+one_more : {A : Type 0} (xs : List A) (o : Option A) → length (added xs o) ≤ length xs + 1
+one_more xs o = omega (arith, length_added xs o, takes_small o)
 
-pub none_more : {A : Type 0} {c : ℕ} (xs : List A) (x : A) → c ≡ 0 → added c xs x ≡ xs
-unfolding added when◌then◌else◌
-none_more xs x e = rw e
+pub none_more : {A : Type 0} {o : Option A} (xs : List A) → o ≡ None → added xs o ≡ xs
+unfolding added
+none_more xs e = rw e
 
 -- A machine with n next, and k moves left.
 pub record Bounds (n : Next) (k : ℕ) (x : Machine) : Type 0 where
@@ -115,7 +114,7 @@ module _ (f : Workflow) (limit : ℕ) (e : Event) (m : Mappings) where
       let q = spare_cost v.next v.state.signal_count (omega arith) in
       let t = hand_empty v.next v.state.signal_count (omega arith) in
       bounded_counting k x v (omega arith) r (omega arith) o
-      (record { room = omega arith; steps = omega arith; enough = omega arith; few_notes = omega (arith, one_more v.note.code x.notes v.note); few_endings = omega (arith, one_more v.ending.ending x.endings v.ending) })
+      (record { room = omega arith; steps = omega arith; enough = omega arith; few_notes = omega (arith, one_more x.notes v.note); few_endings = omega (arith, one_more x.endings v.ending) })
 
   -- WHAT COMES NEXT IS DONE.
   bounded_enter : (k : ℕ) (x : Machine) (n b : ℕ) → Bounds (Enter n b) (suc k) x → Bounded k (counting f limit e m x (enter f x.state n b m))
@@ -131,8 +130,8 @@ module _ (f : Workflow) (limit : ℕ) (e : Event) (m : Mappings) where
         room = omega (arith, a.room);
         steps = omega (arith, a.steps, c.costs.small);
         enough = omega (arith, a.enough, c.costs.small);
-        few_notes = omega (arith, a.few_notes, ap length (none_more x.notes v.note (ap (λ (y : Note). y.code) c.no_note)));
-        few_endings = omega (arith, a.few_endings, ap length (none_more x.endings v.ending (ap (λ (y : Ending). y.ending) c.no_end)));
+        few_notes = omega (arith, a.few_notes, ap length (none_more x.notes c.no_note));
+        few_endings = omega (arith, a.few_endings, ap length (none_more x.endings c.no_end));
       })
 
   bounded_arrival : (k : ℕ) (x : Machine) → Bounds Take (suc k) x → Bounded k (counting f limit e m x (take f x.state (arrival e) Rest))
@@ -153,8 +152,8 @@ module _ (f : Workflow) (limit : ℕ) (e : Event) (m : Mappings) where
         room = a.room;
         steps = omega (arith, a.steps);
         enough = omega arith;
-        few_notes = omega (arith, a.few_notes, ap length (none_more x.notes no_note refl));
-        few_endings = omega (arith, a.few_endings, ap length (none_more x.endings no_ending refl));
+        few_notes = omega (arith, a.few_notes, ap length (none_more x.notes refl));
+        few_endings = omega (arith, a.few_endings, ap length (none_more x.endings refl));
       }
 
   -- a machine at rest needs no move
@@ -187,5 +186,5 @@ module _ (f : Workflow) (limit : ℕ) (e : Event) (m : Mappings) where
       let v = apply f s e in
       let c = reacted f (seen s e.sequence e.accepted_at) e in
       let p = need_cost v.next v.state.signal_count in
-      let n = at_first v.next v.state.signal_count s.signal_count c.same r v.next refl _ (one_more v.note.code [] v.note) (λ z. ap length (none_more [] v.note (ap (λ (y : Note). y.code) (c.quiet z).0))) in
-      record { room = c.room r; steps = omega (arith, c.small); enough = omega (arith, c.small); few_notes = n; few_endings = omega (arith, c.held, length_added v.ending.ending [] v.ending) }
+      let n = at_first v.next v.state.signal_count s.signal_count c.same r v.next refl _ (one_more [] v.note) (λ z. ap length (none_more [] (c.quiet z).0)) in
+      record { room = c.room r; steps = omega (arith, c.small); enough = omega (arith, c.small); few_notes = n; few_endings = omega (arith, c.held, length_added [] v.ending) }

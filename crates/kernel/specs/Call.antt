@@ -1,5 +1,5 @@
 -- A call, whole and in the order of document 01: sheet, event, record, step, finish.
-use Rattle.std.specs.Prelude.{Bool, true, false, not, List, [], ◌∷◌, ◌++◌, ℕ, ◌+◌, ltb, eqb, Option, Some, None, Ok, Err}
+use Rattle.std.specs.Prelude.{Option, Some, None, Bool, true, false, not, List, [], ◌∷◌, ◌++◌, ℕ, ◌+◌, ltb, eqb, Ok, Err}
 use Rattle.laws.specs.Bool.{when◌then◌else◌}
 use Rattle.workflow.specs.View.{Workflow}
 use Rattle.graph.specs.Verdict.{rule, first_broken, verdict, Verdict}
@@ -67,7 +67,7 @@ given (Some state) call = state
 -- THE ANSWER is one of three: a next record with its order, notes and endings; a want of one mapping value, with the record at that moment; a refusal with its item.
 pub record Accepted : Type 0 where
   pub state : State
-  pub order : Order
+  pub order : Option Order
   pub notes : List Note
   pub endings : List Ending
   pub microsteps : ℕ
@@ -78,7 +78,7 @@ pub data Answer : Type 0 where
   refused : Refusal → (item : ℕ) → Answer
 
 -- THE CLOSE (document 02, T-02): a run that has ended leaves over the signals that are still stored. They are listed behind the other endings, oldest first, and the store is
--- empty. Nothing is counted or noted for it.
+-- empty. None is counted or noted for it.
 unfoldable pub closed : Machine → Machine
 closed machine =
     when leaves_over machine.state.status machine.state.signal_count
@@ -95,10 +95,9 @@ closed machine =
     else machine
 
 -- THE FINISH: 29 orders over the command limit, then 30 operations over theirs. A want and a refusal come before.
-abbrev pub orders : Order → ℕ
-orders Order.Nothing = 0
-orders (Order.Schedule schedule) = 1
-orders (Order.Retry retry) = 1
+abbrev pub orders : Option Order → ℕ
+orders None = 0
+orders (Some order) = 1
 
 abbrev pub accepted_of : Machine → Accepted
 accepted_of machine = record { state = machine.state; order = machine.order; notes = machine.notes; endings = machine.endings; microsteps = machine.microsteps }

@@ -1,18 +1,20 @@
 -- How much may still come: every move leaves fewer microsteps to count. On every sheet, sound or not.
-use Rattle.std.specs.Prelude.{◌≡◌, Bool, ℕ, ◌+◌, ◌*◌, ◌≤◌, ◌<◌, eqb, Option, Some, None}
+use Rattle.std.specs.Option.{is_some}
+use mir.Val.{bool_byte}
+use Rattle.std.specs.Prelude.{◌≡◌, Bool, ℕ, ◌+◌, ◌*◌, ◌≤◌, ◌<◌, Option, Some, None, Result, Ok, Err}
 use Rattle.std.proofs.Math.Path.{refl, ap}
 use Rattle.std.proofs.Common.{arith, leb-false}
-use Rattle.laws.specs.Bool.{when◌then◌else◌, split, either}
+use Rattle.laws.specs.Bool.{when◌then◌else◌, either}
 use Rattle.workflow.specs.View.{Workflow}
 use Rattle.workflow.specs.declared.refusal.Refusal.{Refusal}
 use Rattle.model.specs.declared.ErrorInfo.{ErrorInfo}
 use Rattle.model.specs.declared.Output.{Output}
-use Rattle.model.specs.declared.Kept.{Kept}
 use Rattle.model.specs.declared.BufferedSignal.{BufferedSignal}
 use Rattle.model.specs.declared.State.{State}
 use Rattle.model.specs.declared.event.Event.{Event}
 use Rattle.model.specs.declared.event.Mappings.{Mappings}
-use Rattle.model.specs.declared.event.Evaluated.{Evaluated}
+use Rattle.model.specs.declared.event.NoValue.{NoValue}
+use Rattle.model.specs.declared.event.NoValue.TheVariants.{Fault, Unencodable, Lacking}
 use Rattle.model.specs.declared.answer.Order.{Order}
 use Rattle.model.specs.declared.answer.Note.{Note}
 use Rattle.model.specs.declared.answer.Ending.{Ending}
@@ -21,7 +23,7 @@ use Rattle.model.specs.declared.moves.Next.TheVariants.{Rest, Enter, Take, Consu
 use Rattle.model.specs.declared.moves.Move.{Move}
 use Rattle.model.specs.Store.{removed, appended}
 use Rattle.model.specs.StoreLaws.{removed_at, appended_room}
-use Rattle.model.specs.Step.{no_note, no_ending, still, ordering, reading, arrival, terminate, evaluate, schedule, enter_activity, enter_await, enter_complete, arrive, enter, follow_to, route_limited, route, take_by, take, retry}
+use Rattle.model.specs.Step.{still, arrival, terminate, evaluate, without_value, schedule, enter_activity, enter_await, enter_complete, arrive, enter, follow_to, route_limited, route, take_by, take, retry}
 use Rattle.machine.specs.Events.{not_applicable, resolve_as_complete, complete_invocation, stick, fail_invocation, on_signal, on_success, on_failure, on_unknown, on_result, resolve_as_fail, on_resolved, on_ended, react}
 
 -- The microsteps that may still be counted, by what comes next and how many signals are stored: each of them may be taken, and lead to an entry.
@@ -34,12 +36,20 @@ cost (Wants n i b) h = 0
 cost (Refuse k) h = 0
 
 -- A move that tells an ending ends one signal; an arrival that is to be taken is in hand.
-unfoldable pub takes : (ending : ℕ) → ℕ
-takes e = when eqb e 0 then 0 else 1
+unfoldable pub takes : {A : Type 0} → Option A → ℕ
+takes None = 0
+takes (Some x) = 1
 
-pub takes_small : (e : ℕ) → takes e ≤ 1
-unfolding takes when◌then◌else◌
-takes_small e = split (eqb e 0) (λ h. rw h (omega arith)) (λ h. rw h (omega arith))
+-- In code: a number of what there is.
+pub takes_byte : {A : Type 0} (o : Option A) → bool_byte (is_some o) ≡ takes o
+unfolding takes
+takes_byte None = refl
+takes_byte (Some x) = refl
+
+pub takes_small : {A : Type 0} (o : Option A) → takes o ≤ 1
+unfolding takes
+takes_small None = omega arith
+takes_small (Some x) = omega arith
 
 abbrev pub in_hand : Next → ℕ
 in_hand Rest = 0
@@ -65,22 +75,22 @@ pub record Costs (h n : ℕ) (s : State) (k : Next) : Type 0 where
 -- An entry: it has no note and no ending.
 pub record Entered (h : ℕ) (v : Move) : Type 0 where
   pub costs : Costs h (2 * h) v.state v.next
-  pub no_note : v.note ≡ no_note
-  pub no_end : v.ending ≡ no_ending
+  pub no_note : v.note ≡ None
+  pub no_end : v.ending ≡ None
 
 -- A move of an invocation: it has no ending.
 pub record Spares (h : ℕ) (v : Move) : Type 0 where
   pub costs : Costs h (1 + 2 * h) v.state v.next
-  pub no_end : v.ending ≡ no_ending
+  pub no_end : v.ending ≡ None
 
 -- The move for an event: those that it ends, the one in hand and the stored are at most one signal more, which is stored only where there is room and nothing comes next; and a
 -- move to the take of the arrival has no note and no ending.
 pub record Reacted (h : ℕ) (v : Move) : Type 0 where
   pub small : cost v.next v.state.signal_count ≤ 2 + 2 * h
-  pub held : takes v.ending.ending + in_hand v.next + v.state.signal_count ≤ h + 1
+  pub held : takes v.ending + in_hand v.next + v.state.signal_count ≤ h + 1
   pub room : h ≤ 64 → v.state.signal_count ≤ 64
   pub same : (v.next ≡ Rest → ⊥) → v.state.signal_count ≡ h
-  pub quiet : v.next ≡ Take → (v.note ≡ no_note) × (v.ending ≡ no_ending)
+  pub quiet : v.next ≡ Take → (v.note ≡ None) × (v.ending ≡ None)
 
 -- A stored signal is removed.
 pub removed_count : (s : State) (i : ℕ) → s.signal_count ≤ 64 → i < s.signal_count → (removed s i).signal_count + 1 ≡ s.signal_count
@@ -91,20 +101,20 @@ module _ (f : Workflow) where
   entered_if : {h : ℕ} (b : Bool) {x y : Move} → Entered h x → Entered h y → Entered h (when b then x else y)
   entered_if b p q = either (Entered _) b (λ _. p) (λ _. q)
 
-  entered_as : (s : State) (k : Next) {o : Order} {r : ℕ} → cost k s.signal_count ≤ 2 * s.signal_count
-      → Entered s.signal_count (reading r (ordering o (still s k)))
+  entered_as : (s : State) (k : Next) {o : Option Order} {r : ℕ} → cost k s.signal_count ≤ 2 * s.signal_count
+      → Entered s.signal_count (record { state = s; next = k; note = None; ending = None; order = o; read = r })
   entered_as s k c = record { costs = record { small = c; same = refl }; no_note = refl; no_end = refl }
 
   entered_terminate : (s : State) (x : ErrorInfo) → Entered s.signal_count (terminate f s x)
   unfolding terminate
   entered_terminate s x = entered_as _ Rest (omega arith)
 
-  entered_evaluate : (a : Evaluated) (s : State) (n i b r : ℕ) (k : ℕ → Move) → ((x : ℕ) → Entered s.signal_count (k x)) → Entered s.signal_count (evaluate f a s n i b r k)
-  unfolding evaluate terminate
-  entered_evaluate (Evaluated.Value x) s n i b r k g = g x
-  entered_evaluate (Evaluated.Fault c d) s n i b r k g = entered_as _ Rest (omega arith)
-  entered_evaluate Evaluated.Unencodable s n i b r k g = entered_as s (Refuse Refusal.Unencodable) (omega arith)
-  entered_evaluate Evaluated.Lacking s n i b r k g = entered_as s (Wants n i b) (omega arith)
+  entered_evaluate : (a : Result ℕ NoValue) (s : State) (n i b r : ℕ) (k : ℕ → Move) → ((x : ℕ) → Entered s.signal_count (k x)) → Entered s.signal_count (evaluate f a s n i b r k)
+  unfolding evaluate without_value terminate
+  entered_evaluate (Ok x) s n i b r k g = g x
+  entered_evaluate (Err (Fault c d)) s n i b r k g = entered_as _ Rest (omega arith)
+  entered_evaluate (Err Unencodable) s n i b r k g = entered_as s (Refuse Refusal.Unencodable) (omega arith)
+  entered_evaluate (Err Lacking) s n i b r k g = entered_as s (Wants n i b) (omega arith)
 
   entered_arrive : (s : State) (n b : ℕ) (m : Mappings) → Entered s.signal_count (arrive f s n b m)
   unfolding arrive enter_activity enter_await enter_complete schedule
@@ -128,8 +138,8 @@ module _ (f : Workflow) where
   spares_if : {h : ℕ} (b : Bool) {x y : Move} → Spares h x → Spares h y → Spares h (when b then x else y)
   spares_if b p q = either (Spares _) b (λ _. p) (λ _. q)
 
-  spares_as : (s : State) (k : Next) {x : Note} {o : Order} {r : ℕ} → cost k s.signal_count ≤ 1 + 2 * s.signal_count
-      → Spares s.signal_count (record { state = s; next = k; note = x; ending = no_ending; order = o; read = r })
+  spares_as : (s : State) (k : Next) {x : Option Note} {o : Option Order} {r : ℕ} → cost k s.signal_count ≤ 1 + 2 * s.signal_count
+      → Spares s.signal_count (record { state = s; next = k; note = x; ending = None; order = o; read = r })
   spares_as s k c = record { costs = record { small = c; same = refl }; no_end = refl }
 
   spares_follow : (s : State) (n : ℕ) (x : Option ℕ) → Spares s.signal_count (follow_to f s n x)
@@ -184,10 +194,10 @@ module _ (f : Workflow) where
       (spares_if _ (spares_if _ (spares_retry s _) (spares_if _ (spares_fail s _ _ _) (spares_fail s _ _ _)))
       (spares_if _ (spares_as _ Rest (omega arith)) (spares_if _ (spares_retry s _) (spares_fail s _ _ _)))))
 
-  spares_resolve_as_fail : (x : Kept) (s : State) (e : Event) → Spares s.signal_count (resolve_as_fail f x s e)
+  spares_resolve_as_fail : (x : Option ErrorInfo) (s : State) (e : Event) → Spares s.signal_count (resolve_as_fail f x s e)
   unfolding resolve_as_fail
-  spares_resolve_as_fail (Kept.Error x) s e = spares_terminate s x
-  spares_resolve_as_fail Kept.Nothing s e = spares_fail s _ _ _
+  spares_resolve_as_fail (Some x) s e = spares_terminate s x
+  spares_resolve_as_fail None s e = spares_fail s _ _ _
 
   pub spares_resolved : (s : State) (e : Event) → Spares s.signal_count (on_resolved f s e)
   unfolding on_resolved not_applicable resolve_as_complete
@@ -199,10 +209,10 @@ module _ (f : Workflow) where
 
   -- THE EVENTS.
   reacted_spares : (h : ℕ) (v : Move) → Spares h v → Reacted h v
-  unfolding takes when◌then◌else◌
+  unfolding takes
   reacted_spares h v g =
       let c = g.costs.same in
-      let t : takes v.ending.ending ≡ 0 = ap (λ (x : Ending). takes x.ending) g.no_end in
+      let t : takes v.ending ≡ 0 = ap (λ (o : Option Ending). takes o) g.no_end in
       record {
         small = omega (arith, g.costs.small);
         held = omega (arith, hand_empty v.next v.state.signal_count (omega (arith, g.costs.small)));
@@ -211,8 +221,8 @@ module _ (f : Workflow) where
         quiet = λ e. absurd (omega (arith, rw e at g.costs.small));
       }
 
-  reacted_rest : (h : ℕ) (s : State) {x : Note} {y : Ending} → takes y.ending + s.signal_count ≤ h + 1 → (h ≤ 64 → s.signal_count ≤ 64)
-      → Reacted h (record { state = s; next = Rest; note = x; ending = y; order = Order.Nothing; read = 0 })
+  reacted_rest : (h : ℕ) (s : State) {x : Option Note} {y : Option Ending} → takes y + s.signal_count ≤ h + 1 → (h ≤ 64 → s.signal_count ≤ 64)
+      → Reacted h (record { state = s; next = Rest; note = x; ending = y; order = None; read = 0 })
   reacted_rest h s g r =
       record {
         small = omega arith;
@@ -223,20 +233,20 @@ module _ (f : Workflow) where
       }
 
   -- one that is stored as before, whatever it ends
-  reacted_same : (s : State) {x : Note} {y : Ending} → Reacted s.signal_count (record { state = s; next = Rest; note = x; ending = y; order = Order.Nothing; read = 0 })
-  reacted_same s {x} {y} = reacted_rest _ s (omega (arith, takes_small y.ending)) (λ r. r)
+  reacted_same : (s : State) {x : Option Note} {y : Option Ending} → Reacted s.signal_count (record { state = s; next = Rest; note = x; ending = y; order = None; read = 0 })
+  reacted_same s {x} {y} = reacted_rest _ s (omega (arith, takes_small y)) (λ r. r)
 
   -- the arrival is to be taken
   reacted_take : (s : State) → Reacted s.signal_count (still s Take)
-  unfolding takes when◌then◌else◌
+  unfolding takes
   reacted_take s = record { small = omega arith; held = omega arith; room = λ r. r; same = λ _. refl; quiet = λ _. (refl, refl) }
 
   -- it is stored
   reacted_stored : (s : State) (x : BufferedSignal) → s.signal_count < 64 → Reacted s.signal_count (still (appended s x) Rest)
-  unfolding takes when◌then◌else◌
+  unfolding takes
   reacted_stored s x h =
       let n : (appended s x).signal_count ≡ s.signal_count + 1 = ap (λ (t : State). t.signal_count) (appended_room s x h) in
-      reacted_rest s.signal_count (appended s x) {y = no_ending} (omega arith) (λ _. omega arith)
+      reacted_rest s.signal_count (appended s x) {y = None} (omega arith) (λ _. omega arith)
 
   reacted_signal : (s : State) (e : Event) → Reacted s.signal_count (on_signal f s e)
   unfolding on_signal

@@ -1,5 +1,5 @@
 -- The moves of a call, one after the other: the driver counts microsteps against their limit and keeps the lists.
-use Rattle.std.specs.Prelude.{Bool, true, false, List, [], ◌∷◌, ◌++◌, ℕ, ◌+◌, take, ltb, eqb, Option, Some, None}
+use Rattle.std.specs.Prelude.{Option, Some, None, Bool, true, false, List, [], ◌∷◌, ◌++◌, ℕ, ◌+◌, take, ltb}
 use Rattle.laws.specs.Bool.{when◌then◌else◌}
 use Rattle.laws.specs.Settle.{settle}
 use Rattle.workflow.specs.View.{Workflow}
@@ -24,7 +24,7 @@ use Rattle.machine.specs.Events.{apply}
 pub record Machine : Type 0 where
   pub state : State
   pub next : Next
-  pub order : Order
+  pub order : Option Order
   pub notes : List Note
   pub endings : List Ending
   pub microsteps : ℕ
@@ -35,9 +35,10 @@ unfoldable pub operations_of : List Mapping → ℕ
 operations_of [] = 0
 operations_of (answer ∷ more) = answer.operations + operations_of more
 
--- What a move says is listed behind what was said; code 0 says nothing.
-unfoldable pub added : {A : Type 0} → (code : ℕ) → List A → A → List A
-added code listed said = when eqb code 0 then listed else (listed ++ (said ∷ []))
+-- What a move says, if something, is listed behind what was said.
+unfoldable pub added : {A : Type 0} → List A → Option A → List A
+added listed None = listed
+added listed (Some said) = listed ++ (said ∷ [])
 
 -- For one sheet, one limit on microsteps, one event and its mapping answers.
 module _ (sheet : Workflow) (limit : ℕ) (event : Event) (mappings : Mappings) where
@@ -48,8 +49,8 @@ module _ (sheet : Workflow) (limit : ℕ) (event : Event) (mappings : Mappings) 
         state = move.state;
         next = move.next;
         order = move.order;
-        notes = added move.note.code machine.notes move.note;
-        endings = added move.ending.ending machine.endings move.ending;
+        notes = added machine.notes move.note;
+        endings = added machine.endings move.ending;
         microsteps = count;
         operations = machine.operations + operations_of (take move.read mappings.answers);
       }
@@ -103,7 +104,7 @@ module _ (sheet : Workflow) (limit : ℕ) (event : Event) (mappings : Mappings) 
 
   -- The event is applied to the record.
   abbrev pub opened : State → Machine
-  opened state = record { state = state; next = Rest; order = Order.Nothing; notes = []; endings = []; microsteps = 0; operations = 0 }
+  opened state = record { state = state; next = Rest; order = None; notes = []; endings = []; microsteps = 0; operations = 0 }
 
   abbrev pub started : State → Machine
   started state = moved 0 (opened state) (apply sheet state event)

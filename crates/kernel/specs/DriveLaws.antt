@@ -1,7 +1,9 @@
 -- The driver's loop: at each turn the machine of the definition is the record, the lists in their arrays and the counts of the code.
-use Rattle.std.specs.Prelude.{◌≡◌, Bool, true, false, ltb, eqb, take, set, get_or, replicate, Option, Some, None}
+use Rattle.std.specs.Option.{is_some}
+use mir.Val.{bool_byte}
+use Rattle.std.specs.Prelude.{◌≡◌, Option, Some, None, Bool, true, false, ltb, eqb, take, set, get_or, replicate}
 use Rattle.std.proofs.Math.Path.{refl, sym, ap, subst}
-use Rattle.std.proofs.Common.{◌∙◌, length-take-le, eq-eqb, ne_eqb, eqb-true, lt-ltb, le-ltb, ltb-true, ltb-false}
+use Rattle.std.proofs.Common.{◌∙◌, eqb-true, lt-ltb, le-ltb, ltb-true, ltb-false}
 use Rattle.std.proofs.lemmas.Bool.{false≢true, eqb-false}
 use mathlib.Core.List.{List, [], ◌∷◌, ◌++◌}
 use Prim.Native.Nat.{ℕ, zero, suc, ◌+◌, ◌-◌, ◌*◌, ◌≤◌, ◌<◌}
@@ -11,7 +13,7 @@ use Rattle.laws.specs.Bool.{when◌then◌else◌, if_true, if_false, split, eit
 use Rattle.laws.specs.Settle.{settle, Settling, settle_rests, settled, settle_next}
 use Rattle.laws.specs.First.{first}
 use Rattle.laws.specs.Listing.{padded, Listing, listing_none, listing_more, listing_splice, take_padded}
-use Rattle.laws.specs.Splice.{splice, splice_one, Written, write_start, write_next, write_end, flat_ones}
+use Rattle.laws.specs.Splice.{splice}
 use Rattle.workflow.specs.View.{Workflow}
 use Rattle.workflow.specs.Lookup.{node_of}
 use Rattle.model.specs.declared.State.{State}
@@ -34,9 +36,9 @@ use Rattle.workflow.specs.Code.{none}
 use Rattle.workflow.specs.declared.refusal.Refusal.{Refusal}
 use Rattle.model.specs.Code.{store}
 use Rattle.model.specs.Store.{listed as stored_as, stored, first_signal, signal_at, removed, leaves_over, left_over, emptied}
-use Rattle.model.specs.StoreLaws.{IsSlotted, at_taken, stored_length, length_left}
+use Rattle.model.specs.StoreLaws.{IsSlotted, stored_length, length_left}
 use Rattle.model.specs.Step.{still, no_note, no_ending, no_mapping, arrival, enter, follow_to, route_limited, route, take_by, take as take_signal}
-use Rattle.model.specs.EnterLaws.{entering}
+use Rattle.model.specs.EnterLaws.{NoNode, entering}
 use Rattle.model.specs.RouteLaws.{consumed, taking}
 use Rattle.kernel.specs.Cost.{cost, takes, entered}
 use Rattle.machine.specs.Events.{apply}
@@ -65,8 +67,17 @@ entries_small Consume = omega arith
 entries_small (Wants n i b) = omega arith
 entries_small (Refuse k) = omega arith
 
+pub enters_none : (n : Next) → NoNode n → 0 ≡ entries n
+unfolding entries
+enters_none (Enter n b) h = absurd (h n b refl)
+enters_none Rest h = refl
+enters_none Take h = refl
+enters_none Consume h = refl
+enters_none (Wants n i b) h = refl
+enters_none (Refuse k) h = refl
+
 abbrev entered_by : Move → Move → Round
-entered_by t e = record { state = e.state; next = e.next; note = t.note; ending = t.ending; order = e.order; read = e.read; microsteps = takes t.ending.ending + entries t.next }
+entered_by t e = record { state = e.state; next = e.next; note = t.note; ending = t.ending; order = e.order; read = e.read; microsteps = takes t.ending + entries t.next }
 
 unfoldable pub round_of : Workflow → State → Next → BufferedSignal → Mappings → Round
 round_of f s n x m = entered_by (taking f s n x) (entering f (taking f s n x).state (taking f s n x).next m)
@@ -84,23 +95,46 @@ is_over Consume h = eqb h 0
 is_over (Wants n i b) h = true
 is_over (Refuse k) h = true
 
-unfoldable pub rest_answer : Order → Limits → (microsteps operations : ℕ) → code.Answer
+pub over_else : (n : Next) (h : ℕ) → NoNode n → (n ≡ Take → ⊥) → (n ≡ Consume → ⊥) → true ≡ is_over n h
+unfolding is_over
+over_else (Enter n b) h x y z = absurd (x n b refl)
+over_else Take h x y z = absurd (y refl)
+over_else Consume h x y z = absurd (z refl)
+over_else Rest h x y z = refl
+over_else (Wants n i b) h x y z = refl
+over_else (Refuse k) h x y z = refl
+
+pub orders_byte : (o : Option Order) → bool_byte (is_some o) ≡ orders o
+orders_byte None = refl
+orders_byte (Some x) = refl
+
+unfoldable pub rest_answer : Option Order → Limits → (microsteps operations : ℕ) → code.Answer
 rest_answer o l k n =
     when ltb l.commands (orders o) then code.Answer.Refused Refusal.CommandsExceeded none else
     when ltb l.operations n then code.Answer.Refused Refusal.OperationsExceeded none else
     code.Answer.Next o k
 
 -- The answer where no move follows. Where the store is consumed, the run goes on waiting.
-unfoldable pub answer_of : Next → Order → Limits → (microsteps operations : ℕ) → code.Answer
+unfoldable pub answer_of : Next → Option Order → Limits → (microsteps operations : ℕ) → code.Answer
 answer_of Rest o l k n = rest_answer o l k n
 answer_of (Enter t b) o l k n = code.Answer.Refused Refusal.Invariant none
 answer_of Take o l k n = code.Answer.Refused Refusal.Invariant none
-answer_of Consume o l k n = rest_answer Order.Nothing l k n
+answer_of Consume o l k n = rest_answer None l k n
 answer_of (Wants t i b) o l k n = code.Answer.Wants t i b
 answer_of (Refuse r) o l k n = code.Answer.Refused r none
 
+pub answer_else : (n : Next) (o : Option Order) (l : Limits) (k q : ℕ) → (n ≡ Rest → ⊥) → (n ≡ Consume → ⊥) → ((t i b : ℕ) → n ≡ Wants t i b → ⊥) → ((r : Refusal) → n ≡ Refuse r → ⊥)
+    → code.Answer.Refused Refusal.Invariant none ≡ answer_of n o l k q
+unfolding answer_of
+answer_else Rest o l k q x y z w = absurd (x refl)
+answer_else Consume o l k q x y z w = absurd (y refl)
+answer_else (Wants t i b) o l k q x y z w = absurd (z t i b refl)
+answer_else (Refuse r) o l k q x y z w = absurd (w r refl)
+answer_else (Enter t b) o l k q x y z w = refl
+answer_else Take o l k q x y z w = refl
+
 -- The close: what is still stored is left over, behind the other endings, and the store is empty.
-abbrev pub closing : List Note → List Ending → (note_count ending_count : ℕ) → State → Order → (microsteps : ℕ) → Decision
+abbrev pub closing : List Note → List Ending → (note_count ending_count : ℕ) → State → Option Order → (microsteps : ℕ) → Decision
 closing ns es n k s o j =
     record {
       notes = ns;
@@ -146,48 +180,28 @@ module _ (xs : List Mapping) (two : length xs ≡ 2) where
       both (y ∷ (z ∷ [])) (suc i) h = omega arith
       both (y ∷ (z ∷ (w ∷ ys))) i h = absurd (omega arith)
 
--- The array and the count n hold the list xs, and have room for x.
-pub record Adding {A : Type 0} (d : A) (array : List A) (n : ℕ) (xs : List A) (code : ℕ) (x : A) : Type 0 where
+-- The array and the count n hold the list xs, and have room for what is said.
+pub record Adding {A : Type 0} (d : A) (array : List A) (n : ℕ) (xs : List A) (said : Option A) : Type 0 where
   pub are : Listing d 65 array n xs
-  pub fit : length (added code xs x) ≤ 65
+  pub fit : length (added xs said) ≤ 65
 
-module _ {A : Type 0} {d : A} {array : List A} {n : ℕ} {xs : List A} {c : ℕ} {x : A} (l : Adding d array n xs c x) where
-  pub added_room : 0 < c → n < 65
-  unfolding added when◌then◌else◌
-  added_room h =
-      let w : length (xs ++ (x ∷ [])) ≤ 65 = rw (ne_eqb c 0 (λ z. omega arith)) at l.fit in
-      omega (arith, length-append xs (x ∷ []), l.are.count)
+module _ {A : Type 0} {d : A} {array : List A} {n : ℕ} {xs : List A} {o : Option A} (l : Adding d array n xs o) where
+  module _ {x : A} (said : o ≡ Some x) where
+    pub added_room : n < 65
+    unfolding added
+    added_room =
+        let w : length (xs ++ (x ∷ [])) ≤ 65 = rw said at l.fit in
+        omega (arith, length-append xs (x ∷ []), l.are.count)
 
-  pub added_one : {to : List A} {i : ℕ} → 0 < c → to ≡ set array n x → i ≡ n + 1 → Listing d 65 to i (added c xs x)
-  unfolding added when◌then◌else◌
-  added_one h e g = rw (ne_eqb c 0 (λ z. omega arith), e, g) (listing_more d x (added_room h) l.are)
+    pub added_one : {to : List A} {i : ℕ} → to ≡ set array n x → i ≡ n + 1 → Listing d 65 to i (added xs o)
+    unfolding added
+    added_one e g = rw (said, e, g) (listing_more d x added_room l.are)
 
-  pub added_none : {to : List A} {i : ℕ} → c ≤ 0 → to ≡ array → i ≡ n → Listing d 65 to i (added c xs x)
-  unfolding added when◌then◌else◌
-  added_none h e g = rw (eq-eqb c 0 (omega arith), e, g) l.are
+  pub added_none : {to : List A} {i : ℕ} → o ≡ None → to ≡ array → i ≡ n → Listing d 65 to i (added xs o)
+  unfolding added
+  added_none h e g = rw (h, e, g) l.are
 
 -- THE CLOSE: what is left over is listed behind the endings.
--- Of the first n of some endings i stand behind the k that were listed.
-module _ (more : List Ending) (n : ℕ) where
-  abbrev pub Behind : (before : List Ending) → (k i : ℕ) → (now : List Ending) → Type 0
-  Behind before k i now = Written (λ x. x ∷ []) 1 (take n more) k i before now
-
-  pub behind_none : {before : List Ending} {k : ℕ} → Behind before k 0 before
-  behind_none = write_start (λ _. refl)
-
-  module _ {before now : List Ending} {k i : ℕ} (b : Behind before k i now) (within : n ≤ length more) where
-    first_n : length (take n more) ≡ n
-    first_n = length-take-le n more within
-
-    pub behind_more : length before ≡ 65 → k + n ≤ 65 → i < n → Behind before k (i + 1) (set now (k + i) (get_or more i no_ending))
-    behind_more z h g =
-        let e = first_n in
-        write_next b no_ending {k = k + i} (omega arith) (omega arith) (omega arith)
-        (splice_one now (k + i) (get_or more i no_ending) (omega (arith, b.long)) ∙ rw (at_taken no_ending more i n g))
-
-    pub behind_all : n ≤ i → now ≡ splice before k (take n more)
-    behind_all h = write_end b (omega (arith, first_n)) ∙ rw (flat_ones (take n more))
-
 -- All that is left over is listed.
 pub all_left : (s : State) → IsSlotted s → {left : List Ending} → left ≡ padded store no_ending (left_over (stored s)) → take s.signal_count left ≡ left_over (stored s)
 all_left s z e = ap (take s.signal_count) e ∙ take_padded no_ending store s.signal_count (left_over (stored s)) (length_left (stored s) ∙ stored_length s z)
@@ -201,13 +215,13 @@ listed_left {endings} {k} {es} s h l =
 
 -- WHAT A TAKING SAYS: it ends its signal, orders nothing and reads no mapping answer.
 record Ends (v : Move) : Type 0 where
-  takes_one : takes v.ending.ending ≡ 1
-  no_order : v.order ≡ Order.Nothing
+  takes_one : takes v.ending ≡ 1
+  no_order : v.order ≡ None
   unread : v.read ≡ 0
 
 -- Routing orders nothing and reads nothing.
 record Plain (v : Move) : Type 0 where
-  no_order : v.order ≡ Order.Nothing
+  no_order : v.order ≡ None
   unread : v.read ≡ 0
 
 module _ (f : Workflow) where
@@ -227,7 +241,7 @@ module _ (f : Workflow) where
   plain_route s o x = either Plain _ (λ _. record { no_order = refl; unread = refl }) (λ _. plain_limited _ _ o _)
 
   ends_take_by : (y : Option ℕ) (s : State) (x : BufferedSignal) (k : Next) → Ends (take_by f y s x k)
-  unfolding take_by takes when◌then◌else◌
+  unfolding take_by takes
   ends_take_by (Some t) s x k = let g = plain_route s _ _ in record { takes_one = refl; no_order = g.no_order; unread = g.unread }
   ends_take_by None s x k = record { takes_one = refl; no_order = refl; unread = refl }
 
@@ -250,7 +264,7 @@ module _ (f : Workflow) (l : Limits) (e : Event) (m : Mappings) (v₀ : Round) w
   abbrev pub limit : ℕ
   limit = l.microsteps
 
-  abbrev pub machine : State → Next → Order → List Note → List Ending → (microsteps operations : ℕ) → Machine
+  abbrev pub machine : State → Next → Option Order → List Note → List Ending → (microsteps operations : ℕ) → Machine
   machine t n o ns es k q = record { state = t; next = n; order = o; notes = ns; endings = es; microsteps = k; operations = q }
 
   abbrev read_by : (read : ℕ) → ℕ
@@ -258,7 +272,7 @@ module _ (f : Workflow) (l : Limits) (e : Event) (m : Mappings) (v₀ : Round) w
 
   -- the machine after the first move, which applies the event, and when nothing is next
   abbrev begun : Machine
-  begun = machine v₀.state v₀.next v₀.order (added v₀.note.code [] v₀.note) (added v₀.ending.ending [] v₀.ending) 0 (0 + read_by v₀.read)
+  begun = machine v₀.state v₀.next v₀.order (added [] v₀.note) (added [] v₀.ending) 0 (0 + read_by v₀.read)
 
   abbrev pub at_end : Machine
   at_end = settle (is_moving f limit e m) (advance f limit e m) 131 begun
@@ -322,7 +336,7 @@ module _ (f : Workflow) (l : Limits) (e : Event) (m : Mappings) (v₀ : Round) w
         }
 
   -- THE ENTRY THAT FOLLOWS, if a node is next: n is what comes next, at a machine that has no order where none is entered.
-  module _ (s : State) (o : Order) (ns : List Note) (es : List Ending) (j q : ℕ) where
+  module _ (s : State) (o : Option Order) (ns : List Note) (es : List Ending) (j q : ℕ) where
     abbrev after : Next → Machine
     after n = machine (entering f s n m).state (entering f s n m).next (entering f s n m).order ns es (j + entries n) (q + read_by (entering f s n m).read)
 
@@ -330,13 +344,13 @@ module _ (f : Workflow) (l : Limits) (e : Event) (m : Mappings) (v₀ : Round) w
       fine : j + entries n ≤ limit → Going (after n)
       over : limit < j + entries n → Over
 
-    same_machine : (n : Next) {i r : ℕ} → j ≡ i → q ≡ r → machine s n Order.Nothing ns es j q ≡ machine s n Order.Nothing ns es i r
-    same_machine n {i} {r} a b = ap (λ (x : ℕ). machine s n Order.Nothing ns es x q) a ∙ ap (λ (x : ℕ). machine s n Order.Nothing ns es i x) b
+    same_machine : (n : Next) {i r : ℕ} → j ≡ i → q ≡ r → machine s n None ns es j q ≡ machine s n None ns es i r
+    same_machine n {i} {r} a b = ap (λ (x : ℕ). machine s n None ns es x q) a ∙ ap (λ (x : ℕ). machine s n None ns es i x) b
 
-    stays : (n : Next) → o ≡ Order.Nothing → j ≤ limit → Going (machine s n o ns es j q) → machine s n Order.Nothing ns es j q ≡ after n → entries n ≡ 0 → Then n
+    stays : (n : Next) → o ≡ None → j ≤ limit → Going (machine s n o ns es j q) → machine s n None ns es j q ≡ after n → entries n ≡ 0 → Then n
     stays n h z g d k = record { fine = λ _. subst Going d (rw h at g); over = λ w. absurd (omega (arith, k)) }
 
-    follows : (n : Next) → (entries n ≡ 0 → o ≡ Order.Nothing) → j ≤ limit → Going (machine s n o ns es j q) → Then n
+    follows : (n : Next) → (entries n ≡ 0 → o ≡ None) → j ≤ limit → Going (machine s n o ns es j q) → Then n
     unfolding entering entries operations_of advance_by
     follows Rest h z g = stays Rest (h refl) z g (same_machine Rest (omega arith) (omega arith)) refl
     follows (Enter n b) h z g =
@@ -344,7 +358,7 @@ module _ (f : Workflow) (l : Limits) (e : Event) (m : Mappings) (v₀ : Round) w
         let c = entered f s n b m in
         let x = machine s (Enter n b) o ns es j q in
         record {
-          fine = λ w. rw (none_more ns v.note (ap (λ (y : Note). y.code) c.no_note), none_more es v.ending (ap (λ (y : Ending). y.ending) c.no_end)) at (one_more_move x g refl v refl w);
+          fine = λ w. rw (none_more ns c.no_note, none_more es c.no_end) at (one_more_move x g refl v refl w);
           over = λ w. one_over x g refl v refl w;
         }
     follows Take h z g = stays Take (h refl) z g (same_machine Take (omega arith) (omega arith)) refl
@@ -363,7 +377,7 @@ module _ (f : Workflow) (l : Limits) (e : Event) (m : Mappings) (v₀ : Round) w
 
   module _ (s : State) (ns : List Note) (es : List Ending) (j q : ℕ) (within : j ≤ limit) where
     abbrev listing : Round → Machine
-    listing u = machine u.state u.next u.order (added u.note.code ns u.note) (added u.ending.ending es u.ending) (j + u.microsteps) (q + read_by u.read)
+    listing u = machine u.state u.next u.order (added ns u.note) (added es u.ending) (j + u.microsteps) (q + read_by u.read)
 
     record Turn (n : Next) (u : Round) : Type 0 where
       fine : j + u.microsteps ≤ limit → Going (listing u)
@@ -372,7 +386,7 @@ module _ (f : Workflow) (l : Limits) (e : Event) (m : Mappings) (v₀ : Round) w
       quiet : u.microsteps ≡ 0 → going_on u.next ≡ 0
 
     -- A signal is taken, by the move t.
-    turn_taken : (n : Next) (o : Order) (t : Move) → Ends t → Going (machine s n o ns es j q) → moves_on f limit e m n ≡ true
+    turn_taken : (n : Next) (o : Option Order) (t : Move) → Ends t → Going (machine s n o ns es j q) → moves_on f limit e m n ≡ true
         → counting f limit e m (machine s n o ns es j q) t ≡ advance f limit e m (machine s n o ns es j q) → 2 ≤ cost n s.signal_count
         → Turn n (entered_by t (entering f t.state t.next m))
     unfolding operations_of
@@ -381,33 +395,33 @@ module _ (f : Workflow) (l : Limits) (e : Event) (m : Mappings) (v₀ : Round) w
         let one = d.takes_one in
         let k = entries_small t.next in
         let v = entering f t.state t.next m in
-        let ms = added t.note.code ns t.note in
-        let fs = added t.ending.ending es t.ending in
-        let i : j + 1 + entries t.next ≡ j + (takes t.ending.ending + entries t.next) = omega arith in
+        let ms = added ns t.note in
+        let fs = added es t.ending in
+        let i : j + 1 + entries t.next ≡ j + (takes t.ending + entries t.next) = omega arith in
         let r : q + read_by t.read + read_by v.read ≡ q + read_by v.read = rw d.unread (omega arith) in
         let rest : j + 1 ≤ limit → Then t.state t.order ms fs (j + 1) (q + read_by t.read) t.next = λ w. follows t.state t.order ms fs (j + 1) (q + read_by t.read) t.next (λ _. d.no_order) w (one_more_move x g go t is w) in
         record {
-          fine = λ w. subst Going (ap (λ (a : ℕ). machine v.state v.next v.order ms fs a (q + read_by t.read + read_by v.read)) i ∙ ap (λ (a : ℕ). machine v.state v.next v.order ms fs (j + (takes t.ending.ending + entries t.next)) a) r) ((rest (omega arith)).fine (omega arith));
+          fine = λ w. subst Going (ap (λ (a : ℕ). machine v.state v.next v.order ms fs a (q + read_by t.read + read_by v.read)) i ∙ ap (λ (a : ℕ). machine v.state v.next v.order ms fs (j + (takes t.ending + entries t.next)) a) r) ((rest (omega arith)).fine (omega arith));
           over = λ w. split (ltb limit (j + 1)) (λ h. one_over x g go t is (ltb-true limit (j + 1) h)) (λ h. (rest (ltb-false limit (j + 1) h)).over (omega arith));
           small = omega arith;
           quiet = λ z. absurd (omega arith);
         }
 
     -- A node is entered.
-    turn_entered : (a b : ℕ) (o : Order) → Going (machine s (Enter a b) o ns es j q) → Turn (Enter a b) (entered_by (still s (Enter a b)) (enter f s a b m))
-    unfolding entries takes when◌then◌else◌ entering
+    turn_entered : (a b : ℕ) (o : Option Order) → Going (machine s (Enter a b) o ns es j q) → Turn (Enter a b) (entered_by (still s (Enter a b)) (enter f s a b m))
+    unfolding entries takes added entering
     turn_entered a b o g =
         let d = follows s o ns es j q (Enter a b) (λ z. absurd (omega arith)) within g in
         record {
-          fine = λ w. rw (none_more ns no_note refl, none_more es no_ending refl) (d.fine w);
+          fine = λ w. d.fine w;
           over = λ w. d.over w;
           small = omega arith;
           quiet = λ z. absurd (omega arith);
         }
 
     -- The store has no signal that is waited for.
-    turn_waits : (o : Order) → first_signal s (node_of f s.position.node).signal ≡ None → Going (machine s Consume o ns es j q) → Turn Consume (entered_by (still s Rest) (still s Rest))
-    unfolding entries takes when◌then◌else◌ advance_by consume_by operations_of
+    turn_waits : (o : Option Order) → first_signal s (node_of f s.position.node).signal ≡ None → Going (machine s Consume o ns es j q) → Turn Consume (entered_by (still s Rest) (still s Rest))
+    unfolding entries takes added advance_by consume_by operations_of
     turn_waits o h g =
         let x = machine s Consume o ns es j q in
         let p : 0 < 131 - j = omega (arith, g.bounds.enough) in
@@ -415,7 +429,7 @@ module _ (f : Workflow) (l : Limits) (e : Event) (m : Mappings) (v₀ : Round) w
         let y : advance f limit e m x ≡ moved f limit e m j x (still s Rest) = rw h in
         let b = subst (λ (w : Machine). Bounded f limit e m (131 - j - 1) w) y (bounded_advance f limit e m (131 - j - 1) x (rw t at g.bounds)) in
         let r = settle_next g.runs p refl refl (sym y) in
-        let z : moved f limit e m j x (still s Rest) ≡ machine s Rest Order.Nothing (added 0 ns no_note) (added 0 es no_ending) (j + 0) (q + read_by 0) = ap (λ (i : ℕ). machine s Rest Order.Nothing (added 0 ns no_note) (added 0 es no_ending) i (q + 0)) (omega arith) in
+        let z : moved f limit e m j x (still s Rest) ≡ machine s Rest None ns es (j + 0) (q + read_by 0) = ap (λ (i : ℕ). machine s Rest None ns es i (q + 0)) (omega arith) in
         record {
           fine = λ w. record { runs = rw z at (settle_rested r refl (131 - (j + 0))); bounds = fewer f limit e m Rest (131 - j - 1) (131 - (j + 0)) _ (omega arith) (rw z at b) };
           over = λ w. absurd (omega arith);
@@ -423,14 +437,14 @@ module _ (f : Workflow) (l : Limits) (e : Event) (m : Mappings) (v₀ : Round) w
           quiet = λ _. refl;
         }
 
-    turn_consumed : (o : Order) (y : Option ℕ) → first_signal s (node_of f s.position.node).signal ≡ y → Going (machine s Consume o ns es j q) → eqb s.signal_count 0 ≡ false
+    turn_consumed : (o : Option Order) (y : Option ℕ) → first_signal s (node_of f s.position.node).signal ≡ y → Going (machine s Consume o ns es j q) → eqb s.signal_count 0 ≡ false
         → Turn Consume (entered_by (consumed f s y) (entering f (consumed f s y).state (consumed f s y).next m))
     unfolding consumed entering advance_by consume_by
     turn_consumed o (Some i) h g b =
         turn_taken Consume o (take_signal f (removed s i) (signal_at s i) Consume) (ends_take f (removed s i) (signal_at s i) Consume) g refl (rw h refl) (omega (arith, some_stored s.signal_count b))
     turn_consumed o None h g b = turn_waits o h g
 
-    turn : (n : Next) (o : Order) → Going (machine s n o ns es j q) → is_over n s.signal_count ≡ false → Turn n (round_of f s n (arrival e) m)
+    turn : (n : Next) (o : Option Order) → Going (machine s n o ns es j q) → is_over n s.signal_count ≡ false → Turn n (round_of f s n (arrival e) m)
     unfolding is_over round_of taking entering advance_by
     turn Rest o g h = absurd (false≢true (sym h))
     turn (Enter a b) o g h = turn_entered a b o g
@@ -466,7 +480,7 @@ module _ (f : Workflow) (l : Limits) (e : Event) (m : Mappings) (v₀ : Round) w
     pub es : List Ending
     pub notes_are : Listing no_note 65 notes note_count ns
     pub endings_are : Listing no_ending 65 endings ending_count es
-    pub going : microsteps + v.microsteps ≤ limit → Going (machine v.state v.next v.order (added v.note.code ns v.note) (added v.ending.ending es v.ending) (microsteps + v.microsteps) (operations + read_by v.read))
+    pub going : microsteps + v.microsteps ≤ limit → Going (machine v.state v.next v.order (added ns v.note) (added es v.ending) (microsteps + v.microsteps) (operations + read_by v.read))
     pub over : limit < microsteps + v.microsteps → Over
     pub steps : microsteps + v.microsteps ≤ 130
     pub few : operations + left_of v microsteps * 8589934592 ≤ 263 * 8589934592
@@ -498,15 +512,15 @@ module _ (f : Workflow) (l : Limits) (e : Event) (m : Mappings) (v₀ : Round) w
 
   -- The round is counted and listed.
   module _ {v : Round} {notes : List Note} {endings : List Ending} {n k q j : ℕ} (d : Driving v notes endings n k q j) (w : j + v.microsteps ≤ limit) where
-    pub adding_note : Adding no_note notes n d.ns v.note.code v.note
+    pub adding_note : Adding no_note notes n d.ns v.note
     adding_note = record { are = d.notes_are; fit = omega (arith, (d.going w).bounds.few_notes) }
 
-    pub adding_ending : Adding no_ending endings k d.es v.ending.ending v.ending
+    pub adding_ending : Adding no_ending endings k d.es v.ending
     adding_ending = record { are = d.endings_are; fit = omega (arith, (d.going w).bounds.few_endings) }
 
-    pub listed : {a : List Note} {b : List Ending} {i o : ℕ} → Listing no_note 65 a i (added v.note.code d.ns v.note) → Listing no_ending 65 b o (added v.ending.ending d.es v.ending)
+    pub listed : {a : List Note} {b : List Ending} {i o : ℕ} → Listing no_note 65 a i (added d.ns v.note) → Listing no_ending 65 b o (added d.es v.ending)
         → (r : ℕ) → r ≡ read_by v.read → r ≤ 8589934592 → Listed v a b i o (q + r) (j + v.microsteps)
-    listed x y r h z = record { ns = added v.note.code d.ns v.note; es = added v.ending.ending d.es v.ending; notes_are = x; endings_are = y; going = rw h (d.going w); within = w; few = omega (arith, d.few) }
+    listed x y r h z = record { ns = added d.ns v.note; es = added d.es v.ending; notes_are = x; endings_are = y; going = rw h (d.going w); within = w; few = omega (arith, d.few) }
 
   module _ {v : Round} {notes : List Note} {endings : List Ending} {n k q j : ℕ} (d : Listed v notes endings n k q j) where
     -- A round follows.

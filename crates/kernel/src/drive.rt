@@ -25,9 +25,9 @@ use workflow::refusal::Refusal;
 struct Round {
     state: State,
     next: Next,
-    note: Note,
-    ending: Ending,
-    order: Order,
+    note: Option<Note>,
+    ending: Option<Ending>,
+    order: Option<Order>,
     read: u32,
     microsteps: u32,
 }
@@ -40,22 +40,19 @@ fn operations_of(mappings: Mappings, read: u32) -> u64
     if read == 0 {
         return 0;
     }
-    let first = mappings.answers[0];
+    let first = mappings.answers[0].operations;
     if read == 1 {
-        return first.operations as u64;
+        return u64::from(first);
     }
-    let second = mappings.answers[1];
-    (first.operations as u64) + (second.operations as u64)
+    let second = mappings.answers[1].operations;
+    u64::from(first) + u64::from(second)
 }
 
 // A signal that ended was taken.
-fn takes(ending: u32) -> u32
+fn takes(ending: Option<Ending>) -> u32
     ensures { result ≡ takes ending }
 {
-    if ending == 0 {
-        return 0;
-    }
-    1
+    u32::from(ending.is_some())
 }
 
 // An entry, where a node is next.
@@ -63,16 +60,8 @@ fn entries(next: Next) -> u32
     ensures { result ≡ entries next }
 {
     match next {
-        Next::Rest => 0,
-        Next::Enter { node: _, from: _ } => 1,
-        Next::Take => 0,
-        Next::Consume => 0,
-        Next::Wants {
-            node: _,
-            field: _,
-            from: _,
-        } => 0,
-        Next::Refuse(_) => 0,
+        Next::Enter { .. } => 1,
+        _ => 0,
     }
 }
 
@@ -86,22 +75,16 @@ fn take_and_enter(
 ) -> Round
     ensures { result ≡ round_of (workflow w.now) state next arrived mappings }
 {
-    let t = state.take(w, next, arrived);
-    let to = t.next;
-    let note = t.note;
-    let ending = t.ending;
-    let e = t.state.enter(w, to, mappings);
-    let left = e.state;
-    let after = e.next;
-    let order = e.order;
+    let taken = state.take(w, next, arrived);
+    let entered = taken.state.enter(w, taken.next, mappings);
     Round {
-        state: left,
-        next: after,
-        note: note,
-        ending: ending,
-        order: order,
-        read: e.read,
-        microsteps: takes(ending.ending) + entries(to),
+        state: entered.state,
+        next: entered.next,
+        note: taken.note,
+        ending: taken.ending,
+        order: entered.order,
+        read: entered.read,
+        microsteps: takes(taken.ending) + entries(taken.next),
     }
 }
 
@@ -110,31 +93,21 @@ fn is_over(next: Next, stored: u32) -> bool
     ensures { result ≡ is_over next stored }
 {
     match next {
-        Next::Rest => true,
-        Next::Enter { node: _, from: _ } => false,
+        Next::Enter { .. } => false,
         Next::Take => false,
         Next::Consume => stored == 0,
-        Next::Wants {
-            node: _,
-            field: _,
-            from: _,
-        } => true,
-        Next::Refuse(_) => true,
+        _ => true,
     }
 }
 
-fn order_count(order: Order) -> u32
+fn order_count(order: Option<Order>) -> u32
     ensures { result ≡ orders order }
 {
-    match order {
-        Order::Nothing => 0,
-        Order::Schedule(_) => 1,
-        Order::Retry(_) => 1,
-    }
+    u32::from(order.is_some())
 }
 
 // At rest: 29 orders over the command limit, then 30 operations over theirs.
-fn rest_answer(order: Order, limits: Limits, microsteps: u32, operations: u64) -> Answer
+fn rest_answer(order: Option<Order>, limits: Limits, microsteps: u32, operations: u64) -> Answer
     ensures { result ≡ rest_answer order limits microsteps operations }
 {
     if limits.commands < order_count(order) {
@@ -143,7 +116,7 @@ fn rest_answer(order: Order, limits: Limits, microsteps: u32, operations: u64) -
             item: NONE,
         };
     }
-    if (limits.operations as u64) < operations {
+    if u64::from(limits.operations) < operations {
         return Answer::Refused {
             refusal: Refusal::OperationsExceeded,
             item: NONE,
@@ -153,23 +126,25 @@ fn rest_answer(order: Order, limits: Limits, microsteps: u32, operations: u64) -
 }
 
 // The answer where no move follows.
-fn answer_of(next: Next, order: Order, limits: Limits, microsteps: u32, operations: u64) -> Answer
+fn answer_of(
+    next: Next,
+    order: Option<Order>,
+    limits: Limits,
+    microsteps: u32,
+    operations: u64,
+) -> Answer
     ensures { result ≡ answer_of next order limits microsteps operations }
 {
     match next {
         Next::Rest => rest_answer(order, limits, microsteps, operations),
-        Next::Enter { node: _, from: _ } => Answer::Refused {
-            refusal: Refusal::Invariant,
-            item: NONE,
-        },
-        Next::Take => Answer::Refused {
-            refusal: Refusal::Invariant,
-            item: NONE,
-        },
-        Next::Consume => rest_answer(Order::Nothing, limits, microsteps, operations),
+        Next::Consume => rest_answer(None, limits, microsteps, operations),
         Next::Wants { node, field, from } => Answer::Wants { node, field, from },
         Next::Refuse(refusal) => Answer::Refused {
             refusal,
+            item: NONE,
+        },
+        _ => Answer::Refused {
+            refusal: Refusal::Invariant,
             item: NONE,
         },
     }
@@ -214,12 +189,9 @@ fn list_behind(
     requires count_bound_2 { count ≤ 64 }
     ensures { result ≡ splice endings ending_count (take count more) }
 {
-    let mut i: u32 = 0;
-    while i < count {
-        let ending = more[i as usize];
-        endings[(ending_count + i) as usize] = ending;
-        i += 1;
-    }
+    let from = ending_count as usize;
+    let n = count as usize;
+    endings[from..from + n].copy_from_slice(&more[..n]);
     endings
 }
 
@@ -229,7 +201,7 @@ fn close(
     endings: [Ending; code::LIST],
     note_count: u32,
     ending_count: u32,
-    order: Order,
+    order: Option<Order>,
     microsteps: u32,
     state: State,
 ) -> Decision
@@ -311,24 +283,20 @@ fn run(
         if limits.microsteps < microsteps {
             return refusal(Refusal::MicrostepsExceeded, NONE);
         }
-        let note = v.note;
-        if 0 < note.code {
+        if let Some(note) = v.note {
             notes[note_count as usize] = note;
             note_count += 1;
         }
-        let ending = v.ending;
-        if 0 < ending.ending {
+        if let Some(ending) = v.ending {
             endings[ending_count as usize] = ending;
             ending_count += 1;
         }
         operations += operations_of(mappings, v.read);
-        let next = v.next;
-        if is_over(next, v.state.signal_count) {
-            let order = v.order;
-            let answer = answer_of(next, order, limits, microsteps, operations);
+        if is_over(v.next, v.state.signal_count) {
+            let answer = answer_of(v.next, v.order, limits, microsteps, operations);
             return decide(notes, endings, note_count, ending_count, answer, v.state);
         }
-        v = take_and_enter(w, v.state, next, arrival(event), mappings);
+        v = take_and_enter(w, v.state, v.next, arrival(event), mappings);
     }
 }
 
@@ -343,20 +311,15 @@ pub fn drive(
     requires { s.signal_count ≤ 64 }
     ensures { result ≡ decision_of (finish limits (driven (workflow w.now) limits.microsteps event mappings s)) }
 {
-    let a = machine::apply(w, s, event);
-    let state = a.state;
-    let next = a.next;
-    let note = a.note;
-    let ending = a.ending;
-    let order = a.order;
-    let v = Round {
-        state: state,
-        next: next,
-        note: note,
-        ending: ending,
-        order: order,
-        read: a.read,
+    let applied = machine::apply(w, s, event);
+    let first = Round {
+        state: applied.state,
+        next: applied.next,
+        note: applied.note,
+        ending: applied.ending,
+        order: applied.order,
+        read: applied.read,
         microsteps: 0,
     };
-    run(w, v, limits, event, mappings)
+    run(w, first, limits, event, mappings)
 }

@@ -1,5 +1,5 @@
 -- What an event does to a run, as moves: the rest of the step rules of document 01.
-use Rattle.std.specs.Prelude.{Bool, true, false, not, ℕ, ltb, leb, eqb}
+use Rattle.std.specs.Prelude.{Option, Some, None, Bool, true, false, not, ℕ, ltb, leb, eqb}
 use Rattle.laws.specs.Bool.{when◌then◌else◌, ◌and◌}
 use Rattle.workflow.specs.Code.{none, ok, failed, repeatable}
 use Rattle.workflow.specs.View.{Workflow}
@@ -7,7 +7,6 @@ use Rattle.workflow.specs.Lookup.{is_0_2, node_of, policy_of, routed, declares}
 use Rattle.model.specs.Code.{store, waiting, needs_intervention, scheduled, unknown, stuck, run_started, signal_received, activity_result, invocation_resolved, success, failure, resolve_complete, resolve_retry, undeclared_outcome, attempts_exhausted, activity_failed, note_ignored, note_stale, note_not_applicable, note_overflow, note_unknown, note_stuck, mismatch, not_unknown, undeclared, end_overflow, end_ignored}
 use Rattle.model.specs.declared.ErrorInfo.{ErrorInfo}
 use Rattle.model.specs.declared.Output.{Output}
-use Rattle.model.specs.declared.Kept.{Kept}
 use Rattle.model.specs.declared.InvocationState.{InvocationState}
 use Rattle.model.specs.declared.State.{State}
 use Rattle.model.specs.declared.event.Event.{Event}
@@ -43,7 +42,7 @@ unfoldable pub stick : State → ErrorInfo → Move
 stick state why =
     let invocation = state.invocation in
     noting note_stuck state.position.node invocation.visit invocation.attempt why.code
-    (still (placed state needs_intervention state.position (phased invocation stuck invocation.attempt (Kept.Error why))) Rest)
+    (still (placed state needs_intervention state.position (phased invocation stuck invocation.attempt (Some why))) Rest)
 
 -- An ended run only notes the event.
 unfoldable pub on_ended : State → Event → Move
@@ -105,7 +104,7 @@ module _ (sheet : Workflow) where
       when not (eqb (policy_of sheet (action_at state)).effect repeatable)
       then
       noting note_unknown state.position.node invocation.visit invocation.attempt event.status
-      (still (placed state needs_intervention state.position (phased invocation unknown invocation.attempt Kept.Nothing)) Rest)
+      (still (placed state needs_intervention state.position (phased invocation unknown invocation.attempt None)) Rest)
       else
       when may_retry state event then retry sheet state (delay_of (action_at state) event) else
       fail_invocation state attempts_exhausted event.status true
@@ -126,9 +125,9 @@ module _ (sheet : Workflow) where
       not_applicable state event undeclared
 
   -- Resolving a stuck run as fail ends it as failed with the kept error, even where failed is routed.
-  unfoldable pub resolve_as_fail : Kept → State → Event → Move
-  resolve_as_fail (Kept.Error why) state event = terminate sheet state why
-  resolve_as_fail Kept.Nothing state event = fail_invocation state event.code event.detail false
+  unfoldable pub resolve_as_fail : Option ErrorInfo → State → Event → Move
+  resolve_as_fail (Some why) state event = terminate sheet state why
+  resolve_as_fail None state event = fail_invocation state event.code event.detail false
 
   -- An operator's retry needs neither, and has delay 0.
   unfoldable pub on_resolved : State → Event → Move

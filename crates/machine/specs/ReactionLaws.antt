@@ -1,25 +1,24 @@
 -- Between the rules of the events and their code: what an event makes of a run is a value first, and is done to the record then.
-use Rattle.std.specs.Prelude.{◌≡◌}
+use Rattle.std.specs.Prelude.{◌≡◌, Option, Some, None}
 use Rattle.workflow.specs.View.{Workflow, workflow}
 use Rattle.model.specs.Code.{needs_intervention}
 use Rattle.model.specs.declared.State.{State}
 use Rattle.model.specs.declared.event.Event.{Event}
 use Rattle.model.specs.declared.answer.Note.{Note}
 use Rattle.model.specs.declared.answer.Ending.{Ending}
-use Rattle.model.specs.declared.answer.Order.{Order}
 use Rattle.model.specs.declared.moves.Next.TheVariants.{Rest}
 use Rattle.model.specs.declared.moves.Move.{Move}
 use Rattle.model.specs.Record.{placed}
 use Rattle.model.specs.Store.{appended}
-use Rattle.model.specs.Step.{no_ending, still, phased, arrival, terminate, retry}
+use Rattle.model.specs.Step.{still, phased, arrival, terminate, retry}
 use Rattle.machine.specs.declared.events.Machine.{Machine}
 use Rattle.machine.specs.declared.reaction.Reaction.{Reaction}
 use Rattle.machine.specs.declared.reaction.Reaction.TheVariants.{Pass, Store, Say, Route, Retry, Park, Fail}
 use Rattle.machine.specs.Events.{complete_invocation}
 
 -- A record with a note and an ending, and nothing next.
-abbrev told : State → Note → Ending → Move
-told state note ending = record { state = state; next = Rest; note = note; ending = ending; order = Order.Nothing; read = 0 }
+abbrev told : State → Note → Option Ending → Move
+told state note ending = record { state = state; next = Rest; note = Some note; ending = ending; order = None; read = 0 }
 
 -- What doing a reaction to an event makes of a run.
 unfoldable pub performed : Workflow → State → Event → Reaction → Move
@@ -29,7 +28,7 @@ performed sheet state event (Say note ending) = told state note ending
 performed sheet state event (Route outcome output) = complete_invocation sheet state outcome output
 performed sheet state event (Retry delay) = retry sheet state delay
 performed sheet state event (Park phase kept note) =
-    told (placed state needs_intervention state.position (phased state.invocation phase state.invocation.attempt kept)) note no_ending
+    told (placed state needs_intervention state.position (phased state.invocation phase state.invocation.attempt kept)) note None
 performed sheet state event (Fail why) = terminate sheet state why
 
 -- The reaction is what the rule makes of the run that hears the event.

@@ -10,8 +10,8 @@ ghost use Rattle.machine.specs.ReactionLaws.{Reacts};
 use crate::reaction::Reaction;
 use model::answer::{Ending, Note};
 use model::event::Event;
-use model::moves::{Next, no_ending};
-use model::{BufferedSignal, Kept, Output, State, code};
+use model::moves::Next;
+use model::{BufferedSignal, Output, State, code};
 use workflow::code as sheet;
 use workflow::layout::{NUMBERS, START};
 
@@ -95,10 +95,10 @@ impl<'a> Machine<'a> {
                     b: 0,
                     c: 0,
                 },
-                ending: Ending {
+                ending: Some(Ending {
                     sequence: self.event.sequence,
                     ending: code::END_OVERFLOW,
-                },
+                }),
             };
         }
         Reaction::Store
@@ -136,7 +136,7 @@ impl<'a> Machine<'a> {
         if self.needs_person() {
             return Reaction::Park {
                 phase: code::UNKNOWN,
-                error: Kept::Nothing,
+                error: None,
                 note: Note {
                     code: code::NOTE_UNKNOWN,
                     node: self.state.position.node,
@@ -165,7 +165,7 @@ impl<'a> Machine<'a> {
                     b: self.event.visit,
                     c: self.event.attempt,
                 },
-                ending: no_ending(),
+                ending: None,
             };
         }
         if self.event.status == code::SUCCESS {
@@ -189,7 +189,7 @@ impl<'a> Machine<'a> {
                 b: self.event.visit,
                 c: reason,
             },
-            ending: no_ending(),
+            ending: None,
         }
     }
 
@@ -212,8 +212,8 @@ impl<'a> Machine<'a> {
         ensures { Reacts self.now result (λ f s. resolve_as_fail f s.invocation.error s) }
     {
         match self.state.invocation.error {
-            Kept::Error(error) => Reaction::Fail(error),
-            Kept::Nothing => self.fail_invocation(self.event.code, self.event.detail, false),
+            Some(error) => Reaction::Fail(error),
+            None => self.fail_invocation(self.event.code, self.event.detail, false),
         }
     }
 
@@ -240,12 +240,12 @@ impl<'a> Machine<'a> {
     pub fn on_ended(&self) -> Reaction
         ensures { Reacts self.now result (λ _ s e. on_ended s e) }
     {
-        let mut ending = no_ending();
+        let mut ending = None;
         if self.event.kind == code::SIGNAL_RECEIVED {
-            ending = Ending {
+            ending = Some(Ending {
                 sequence: self.event.sequence,
                 ending: code::END_IGNORED,
-            };
+            });
         }
         Reaction::Say {
             note: Note {

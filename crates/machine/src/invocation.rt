@@ -8,7 +8,7 @@ ghost use Rattle.machine.specs.ReactionLaws.{Reacts};
 use crate::events::Machine;
 use crate::reaction::Reaction;
 use model::answer::Note;
-use model::{ErrorInfo, Kept, Output, code};
+use model::{ErrorInfo, Output, code};
 use workflow::code as sheet;
 
 impl<'a> Machine<'a> {
@@ -65,7 +65,7 @@ impl<'a> Machine<'a> {
         if may_park && is_0_2 {
             return Reaction::Park {
                 phase: code::STUCK,
-                error: Kept::Error(error),
+                error: Some(error),
                 note: Note {
                     code: code::NOTE_STUCK,
                     node,

@@ -11,9 +11,8 @@ ghost use Rattle.machine.specs.Events.{apply};
 
 use crate::events::{Machine, arrival};
 use crate::reaction::Reaction;
-use model::answer::Order;
 use model::event::Event;
-use model::moves::{Move, Next, no_ending, still};
+use model::moves::{Move, Next, still};
 use model::{InvocationState, State, code};
 use workflow::layout::NUMBERS;
 
@@ -34,9 +33,9 @@ pub fn apply(w: &[u32; NUMBERS], mut s: State, event: Event) -> Move
         Reaction::Say { note, ending } => Move {
             state: s,
             next: Next::Rest,
-            note,
+            note: Some(note),
             ending,
-            order: Order::Nothing,
+            order: None,
             read: 0,
         },
         Reaction::Route { outcome, output } => {
@@ -54,9 +53,9 @@ pub fn apply(w: &[u32; NUMBERS], mut s: State, event: Event) -> Move
             Move {
                 state: s,
                 next: Next::Rest,
-                note,
-                ending: no_ending(),
-                order: Order::Nothing,
+                note: Some(note),
+                ending: None,
+                order: None,
                 read: 0,
             }
         }

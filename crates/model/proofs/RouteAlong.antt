@@ -1,5 +1,5 @@
 -- A node that is there routes: what the code works out one by one is the move.
-use Rattle.std.specs.Prelude.{◌≡◌, Bool, Option, Some, None}
+use Rattle.std.specs.Prelude.{◌≡◌, Option, Some, None, Bool}
 use Rattle.std.proofs.Math.Bool.{true, false}
 use Prim.Native.Nat.{ℕ, ◌+◌, ◌<◌}
 use native.Mathlib.Omega.{arith}
@@ -18,8 +18,8 @@ use Rattle.model.specs.declared.answer.Ending.{Ending}
 use Rattle.model.specs.declared.route.Routing.{Routing}
 use Rattle.model.specs.declared.moves.Next.{Next}
 use Rattle.model.specs.Record.{no_streak, streak_of, with_streak, with_result}
-use Rattle.model.specs.Step.{streak_count, no_ending, noting, follow_to, route_limited, route}
-use Rattle.model.specs.RouteLaws.{exhausts, goes_on, routing_of, next_of, along, follow_on, Makes, ends}
+use Rattle.model.specs.Step.{streak_count, noting, follow_to, route_limited, route}
+use Rattle.model.specs.RouteLaws.{exhausts, goes_on, routing_of, next_of, along, follow_on, stored_by, Makes, ends}
 
 module _ (f : Workflow) (s : State) (n o : ℕ) where
   either_way : (b : Bool) (x : ℕ) (k : Streak) → (when b then noting note_exhausted n o x 0 (follow_to f (with_streak s n no_streak) n (route_of f n exhausted)) else follow_to f (with_streak s n k) n (route_of f n o)) ≡ along f s n (when b then exhausts n o x else goes_on o k)
@@ -32,16 +32,16 @@ module _ (f : Workflow) (s : State) (n o : ℕ) where
   route_along None = follow_on f (with_streak s n no_streak) n (route_of f n o)
   route_along (Some x) = either_way (leb x (streak_count (streak_of s n) o)) x (record { outcome = o; count = streak_count (streak_of s n) o + 1 })
 
-module _ (f : Workflow) (p : Position) (k : Streak) (o : ℕ) (x : Output) (e : Ending) where
+module _ (f : Workflow) (p : Position) (k : Streak) (o : ℕ) (x : Output) (e : Option Ending) where
   pub routes : {m : ℕ} {l t : Option ℕ} {y : Routing} {n : Next} → m ≡ node_slots f → p.node < m → l ≡ limit_of f p.node o → y ≡ routing_of l k p.node o → t ≡ route_of f p.node y.outcome → n ≡ next_of t p.node
-      → Makes p k (record { stored = true; result = record { visit = p.visit; outcome = o; output = x }; streak = y.streak; next = n; note = y.note; ending = e }) (λ s. ends e (route f s o x))
-  unfolding route when◌then◌else◌
+      → Makes p k (record { stored = Some (record { result = record { visit = p.visit; outcome = o; output = x }; streak = y.streak }); next = n; note = y.note; ending = e }) (λ s. ends e (route f s o x))
+  unfolding route stored_by when◌then◌else◌
   routes em lt el ey et en =
       let past : leb (node_slots f) p.node ≡ false = lt-leb (node_slots f) p.node (omega arith) in
-      record { inside = λ _. omega arith; of_record = λ s a b. rw a (simp (past, route_along, b, en, et, ey, el)) }
+      record { inside = λ _ _. omega arith; of_record = λ s a b. rw a (simp (past, route_along, b, en, et, ey, el)) }
 
 -- Routing says no ending.
-pub unended : (f : Workflow) (s : State) (o : ℕ) (x : Output) → ends no_ending (route f s o x) ≡ route f s o x
+pub unended : (f : Workflow) (s : State) (o : ℕ) (x : Output) → ends None (route f s o x) ≡ route f s o x
 unfolding route when◌then◌else◌
 unended f s o x =
     split (leb (node_slots f) s.position.node) (λ h. rw h)

@@ -1,9 +1,8 @@
 -- The number and the values of each case of an answer, as document 01 lists them (docs/NUMBERS.md: where each stands).
-use Rattle.std.specs.Prelude.{List, [], ◌∷◌, ℕ}
+use Rattle.std.specs.Prelude.{List, [], ◌∷◌, ℕ, Option, Some, None}
 use Rattle.workflow.specs.Refusal.{number}
 use Rattle.model.specs.declared.Output.{Output}
-use Rattle.model.specs.declared.Kept.{Kept}
-use Rattle.model.specs.declared.answer.Params.{Params}
+use Rattle.model.specs.declared.ErrorInfo.{ErrorInfo}
 use Rattle.model.specs.declared.answer.Order.{Order}
 use Rattle.model.specs.declared.answer.Answer.{Answer}
 
@@ -14,20 +13,20 @@ output_numbers (Output.Handle handle) = 1 ∷ handle ∷ 0 ∷ 0 ∷ []
 output_numbers (Output.Error error) = 2 ∷ error.code ∷ error.node ∷ error.detail ∷ []
 
 -- The error that a stuck invocation keeps.
-unfoldable pub kept_numbers : Kept → List ℕ
-kept_numbers Kept.Nothing = 0 ∷ 0 ∷ 0 ∷ 0 ∷ []
-kept_numbers (Kept.Error error) = 1 ∷ error.code ∷ error.node ∷ error.detail ∷ []
+unfoldable pub kept_numbers : Option ErrorInfo → List ℕ
+kept_numbers None = 0 ∷ 0 ∷ 0 ∷ 0 ∷ []
+kept_numbers (Some error) = 1 ∷ error.code ∷ error.node ∷ error.detail ∷ []
 
-unfoldable pub params_numbers : Params → List ℕ
-params_numbers Params.Nothing = 0 ∷ 0 ∷ []
-params_numbers (Params.Handle handle) = 1 ∷ handle ∷ []
+unfoldable pub params_numbers : Option ℕ → List ℕ
+params_numbers None = 0 ∷ 0 ∷ []
+params_numbers (Some handle) = 1 ∷ handle ∷ []
 
 -- The order: none, a schedule, a retry; then node, visit, action, attempt, not before, input, params.
-unfoldable pub order_numbers : Order → List ℕ
-order_numbers Order.Nothing = 0 ∷ 0 ∷ 0 ∷ 0 ∷ 0 ∷ 0 ∷ 0 ∷ 0 ∷ 0 ∷ []
-order_numbers (Order.Schedule schedule) =
+unfoldable pub order_numbers : Option Order → List ℕ
+order_numbers None = 0 ∷ 0 ∷ 0 ∷ 0 ∷ 0 ∷ 0 ∷ 0 ∷ 0 ∷ 0 ∷ []
+order_numbers (Some (Order.Schedule schedule)) =
     1 ∷ schedule.node ∷ schedule.visit ∷ schedule.action ∷ schedule.attempt ∷ schedule.not_before ∷ schedule.input ∷ params_numbers schedule.params
-order_numbers (Order.Retry retry) = 2 ∷ retry.node ∷ retry.visit ∷ 0 ∷ retry.attempt ∷ retry.not_before ∷ 0 ∷ 0 ∷ 0 ∷ []
+order_numbers (Some (Order.Retry retry)) = 2 ∷ retry.node ∷ retry.visit ∷ 0 ∷ retry.attempt ∷ retry.not_before ∷ 0 ∷ 0 ∷ 0 ∷ []
 
 -- The answer: a next record, with microsteps and order; a want, with node, field and the node come from; a refusal, with number and item.
 unfoldable pub answer_numbers : Answer → List ℕ

@@ -1,5 +1,5 @@
 -- Entering a node: what an entry makes of a record, and each branch of the rules as the code comes to it.
-use Rattle.std.specs.Prelude.{◌≡◌, Bool, true, false, [], ◌∷◌, ℕ, ◌+◌, ◌≤◌, ◌<◌, length, Option, Some, None}
+use Rattle.std.specs.Prelude.{◌≡◌, Some, None, Result, Ok, Err, Bool, true, false, [], ◌∷◌, ℕ, ◌+◌, ◌≤◌, ◌<◌, length}
 use Rattle.std.proofs.Math.Path.{refl, sym, ap}
 use Rattle.std.proofs.Common.{◌∙◌, arith, get_or-set_same}
 use Rattle.std.proofs.lemmas.Bool.{false≢true}
@@ -13,61 +13,33 @@ use Rattle.workflow.specs.View.{Workflow}
 use Rattle.workflow.specs.Lookup.{node_slots}
 use Rattle.workflow.specs.declared.refusal.Refusal.{Refusal}
 use Rattle.model.specs.Code.{field_params, visits_exceeded, activations_exceeded}
-use Rattle.model.specs.declared.Output.{Output}
 use Rattle.model.specs.declared.Visits.{Visits}
 use Rattle.model.specs.declared.State.{State}
-use Rattle.model.specs.declared.answer.Params.{Params}
-use Rattle.model.specs.declared.answer.Note.{Note}
-use Rattle.model.specs.declared.answer.Ending.{Ending}
 use Rattle.model.specs.declared.event.Mappings.{Mappings}
-use Rattle.model.specs.declared.event.Evaluated.{Evaluated}
+use Rattle.model.specs.declared.event.NoValue.{NoValue}
 use Rattle.model.specs.declared.enter.Entry.{Entry}
+use Rattle.model.specs.declared.enter.Standing.{Standing}
+use Rattle.model.specs.declared.enter.Standing.TheVariants.{Unmoved, Placed, Finished}
 use Rattle.model.specs.declared.moves.Next.{Next}
 use Rattle.model.specs.declared.moves.Next.TheVariants.{Rest, Enter, Take, Consume, Wants, Refuse}
 use Rattle.model.specs.declared.moves.Move.{Move}
-use Rattle.model.specs.Record.{no_visits, visits_of, with_visits, placed}
-use Rattle.model.specs.Step.{no_note, no_ending, still, reading, error, one_more_visit, answer, terminate, evaluate, schedule, arrive, enter}
-
--- The value of a mapping answer, if it is one.
-unfoldable pub value_of : Evaluated → Option ℕ
-value_of (Evaluated.Value x) = Some x
-value_of (Evaluated.Fault c d) = None
-value_of Evaluated.Unencodable = None
-value_of Evaluated.Lacking = None
+use Rattle.model.specs.Record.{no_visits, visits_of, with_visits, placed, finished}
+use Rattle.model.specs.Step.{still, reading, error, one_more_visit, answer, terminate, without_value, evaluate, schedule, arrive, enter}
 
 -- WHAT AN ENTRY MAKES OF A RECORD. Where the run stands, and its result.
-abbrev pub placing : Entry → State → State
-placing e s = when e.placed then placed s e.status e.position e.invocation else s
-
-abbrev with_output : State → Output → State
-with_output s x =
-    record {
-      signals = s.signals;
-      visits = s.visits;
-      streaks = s.streaks;
-      results = s.results;
-      last_sequence = s.last_sequence;
-      last_accepted_at = s.last_accepted_at;
-      signal_count = s.signal_count;
-      status = s.status;
-      input = s.input;
-      activations = s.activations;
-      position = s.position;
-      invocation = s.invocation;
-      result = record { output = x };
-    }
-
-abbrev pub resulting : Entry → State → State
-resulting e s = when e.ended then with_output s e.output else s
+abbrev pub settled : State → Standing → State
+settled s Unmoved = s
+settled s (Placed k p v) = placed s k p v
+settled s (Finished k x) = finished s k (record { output = x })
 
 -- The move, of a record that has counted the entry if it counts.
 unfoldable pub made : State → Entry → Move
 made s e =
     record {
-      state = resulting e (placing e s);
+      state = settled s e.standing;
       next = e.next;
-      note = no_note;
-      ending = no_ending;
+      note = None;
+      ending = None;
       order = e.order;
       read = e.read;
     }
@@ -120,30 +92,19 @@ no_destination (Wants n i b) h = refl
 no_destination (Refuse x) h = refl
 
 module _ (f : Workflow) where
-  -- What follows an answer that is no value.
-  unfoldable pub without_value : Evaluated → State → (node field from read : ℕ) → Move
-  without_value a s n i b r = evaluate f a s n i b r (λ _. still s Rest)
-
   -- The params of an activity whose input is known.
   unfoldable pub enter_with_params : State → (node from : ℕ) → Mappings → (input : ℕ) → Move
-  enter_with_params s n b m x = evaluate f (answer m 1) s n field_params b 2 (λ p. reading 2 (schedule f s n x (Params.Handle p)))
+  enter_with_params s n b m x = evaluate f (answer m 1) s n field_params b 2 (λ p. reading 2 (schedule f s n x (Some p)))
 
-  -- A value is gone on with, and any other answer halts: a is the answer, v its value if any, and r the move.
-  pub evaluates : (e : Evaluated) (s : State) (n i b j : ℕ) (k : ℕ → Move) {a : Evaluated} {v : Option ℕ} {x : ℕ} {r : Move} → a ≡ e → v ≡ value_of a → v ≡ Some x → r ≡ k x → r ≡ evaluate f e s n i b j k
-  unfolding value_of evaluate
-  evaluates (Evaluated.Value y) s n i b j k {x = x} p q h g =
-      let same : x ≡ y = cc in
-      rw same at g
-  evaluates (Evaluated.Fault c d) s n i b j k p q h g = cc
-  evaluates Evaluated.Unencodable s n i b j k p q h g = cc
-  evaluates Evaluated.Lacking s n i b j k p q h g = cc
+  -- An answer e, read as a: its value is gone on with, or it halts; r is the move.
+  module _ (e : Result ℕ NoValue) (s : State) (n i b j : ℕ) (k : ℕ → Move) {a : Result ℕ NoValue} {r : Move} (same : a ≡ e) where
+    pub evaluates : {x : ℕ} → a ≡ Ok x → r ≡ k x → r ≡ evaluate f e s n i b j k
+    unfolding evaluate
+    evaluates h g = rw (← same, h) g
 
-  pub halts : (e : Evaluated) (s : State) (n i b j : ℕ) (k : ℕ → Move) {a : Evaluated} {v : Option ℕ} {r : Move} → a ≡ e → v ≡ value_of a → v ≡ None → r ≡ without_value a s n i b j → r ≡ evaluate f e s n i b j k
-  unfolding value_of evaluate without_value
-  halts (Evaluated.Value y) s n i b j k p q h g = cc
-  halts (Evaluated.Fault c d) s n i b j k p q h g = rw p at g
-  halts Evaluated.Unencodable s n i b j k p q h g = rw p at g
-  halts Evaluated.Lacking s n i b j k p q h g = rw p at g
+    pub halts : {y : NoValue} → a ≡ Err y → r ≡ without_value f y s n i b j → r ≡ evaluate f e s n i b j k
+    unfolding evaluate
+    halts h g = rw (← same, h) g
 
   -- A node that comes next is entered; else the record is handed back as it is.
   unfoldable pub entering : State → Next → Mappings → Move
@@ -227,7 +188,7 @@ module _ {s : State} {n v a t : ℕ} (e : Entry) (given : Uncounted s n v a t) w
   counted_none h g = g ∙ sym (if_false _ _ _ h)
 
 -- What is stored step by step is what the entry makes.
-pub stores : (s : State) (n : ℕ) (e : Entry) {x y z : State} {p : Note} {q : Ending} → x ≡ counted s n e → y ≡ placing e x → z ≡ resulting e y → p ≡ no_note → q ≡ no_ending →
-    record { state = z; next = e.next; note = p; ending = q; order = e.order; read = e.read } ≡ made (counted s n e) e
+pub stores : (s : State) (n : ℕ) (e : Entry) {x y : State} → x ≡ counted s n e → y ≡ settled x e.standing →
+    record { state = y; next = e.next; note = None; ending = None; order = e.order; read = e.read } ≡ made (counted s n e) e
 unfolding made
-stores s n e hx hy hz hp hq = rw (hz, hy, hx, hp, hq)
+stores s n e hx hy = rw (hy, hx)

@@ -1,13 +1,12 @@
 -- The run record: its empty slots, its readers, and what each setter changes.
 -- Where the original has another name: `fresh` is its `initial`; `results` are its `State.nodes`; `phase` is its `InvocationState.state` and an invocation's `input`
 -- its `input_digest`; a stored signal's `signal` is its `signal.name`; `last_accepted_at` is its `last_accepted_at_ms`: all times and delays are milliseconds.
-use Rattle.std.specs.Prelude.{Bool, List, ℕ, max, get_or, set, replicate, eqb}
+use Rattle.std.specs.Prelude.{Bool, List, ℕ, None, max, get_or, set, replicate, eqb}
 use Rattle.laws.specs.Bool.{◌or◌}
 use Rattle.workflow.specs.Code.{none}
 use Rattle.workflow.specs.Layout.{node_room}
 use Rattle.model.specs.Code.{store, running, run_completed, run_failed}
 use Rattle.model.specs.declared.Output.{Output}
-use Rattle.model.specs.declared.Kept.{Kept}
 use Rattle.model.specs.declared.BufferedSignal.{BufferedSignal}
 use Rattle.model.specs.declared.Visits.{Visits}
 use Rattle.model.specs.declared.Streak.{Streak}
@@ -42,7 +41,7 @@ no_invocation =
       action = 0;
       attempt = 0;
       input = 0;
-      error = Kept.Nothing;
+      error = None;
     }
 
 abbrev pub no_result : RunResult

@@ -1,5 +1,5 @@
 -- The step rules of document 01, as moves: each takes the run record and hands the next one back, with at most one note, one ending and one order.
-use Rattle.std.specs.Prelude.{ℕ, ◌+◌, get_or, ltb, leb, eqb, Option, Some, None}
+use Rattle.std.specs.Prelude.{ℕ, Option, Some, None, Result, Ok, Err, ◌+◌, get_or, ltb, leb, eqb}
 use Rattle.laws.specs.Bool.{when◌then◌else◌, ◌and◌}
 use Rattle.workflow.specs.Code.{none, received, exhausted, activity, await_signal, complete}
 use Rattle.model.specs.Code.{largest, largest_attempt, running, waiting, run_completed, run_failed, scheduled, value, fault, field_input, field_params, field_output, visits_exceeded, activations_exceeded, note_unrouted, note_retry, note_exhausted, end_routed, end_unrouted}
@@ -8,7 +8,6 @@ use Rattle.workflow.specs.Lookup.{is_0_2, node_slots, node_of, route_of, limit_o
 use Rattle.workflow.specs.declared.refusal.Refusal.{Refusal}
 use Rattle.model.specs.declared.ErrorInfo.{ErrorInfo}
 use Rattle.model.specs.declared.Output.{Output}
-use Rattle.model.specs.declared.Kept.{Kept}
 use Rattle.model.specs.declared.BufferedSignal.{BufferedSignal}
 use Rattle.model.specs.declared.Streak.{Streak}
 use Rattle.model.specs.declared.Position.{Position}
@@ -17,8 +16,8 @@ use Rattle.model.specs.declared.State.{State}
 use Rattle.model.specs.declared.event.Event.{Event}
 use Rattle.model.specs.declared.event.Mapping.{Mapping}
 use Rattle.model.specs.declared.event.Mappings.{Mappings}
-use Rattle.model.specs.declared.event.Evaluated.{Evaluated}
-use Rattle.model.specs.declared.answer.Params.{Params}
+use Rattle.model.specs.declared.event.NoValue.{NoValue}
+use Rattle.model.specs.declared.event.NoValue.TheVariants.{Fault, Unencodable, Lacking}
 use Rattle.model.specs.declared.answer.Order.{Order}
 use Rattle.model.specs.declared.answer.Note.{Note}
 use Rattle.model.specs.declared.answer.Ending.{Ending}
@@ -27,23 +26,24 @@ use Rattle.model.specs.declared.moves.Next.TheVariants.{Rest, Enter, Consume, Wa
 use Rattle.model.specs.declared.moves.Move.{Move}
 use Rattle.model.specs.Record.{no_streak, no_invocation, visits_of, streak_of, with_visits, with_streak, with_result, placed, finished}
 
--- WHAT A MOVE SAYS.
+-- What fills up a list of notes, and one of endings.
 abbrev pub no_note : Note
 no_note = record { code = 0; node = 0; a = 0; b = 0; c = 0 }
 
 abbrev pub no_ending : Ending
 no_ending = record { sequence = 0; ending = 0 }
 
+-- WHAT A MOVE SAYS.
 -- nothing but the record and what comes next
 abbrev pub still : State → Next → Move
-still state next = record { state = state; next = next; note = no_note; ending = no_ending; order = Order.Nothing; read = 0 }
+still state next = record { state = state; next = next; note = None; ending = None; order = None; read = 0 }
 
 abbrev pub noting : (code node a b c : ℕ) → Move → Move
 noting code node a b c move =
     record {
       state = move.state;
       next = move.next;
-      note = record { code = code; node = node; a = a; b = b; c = c };
+      note = Some (record { code = code; node = node; a = a; b = b; c = c });
       ending = move.ending;
       order = move.order;
       read = move.read;
@@ -55,13 +55,13 @@ ending sequence kind move =
       state = move.state;
       next = move.next;
       note = move.note;
-      ending = record { sequence = sequence; ending = kind };
+      ending = Some (record { sequence = sequence; ending = kind });
       order = move.order;
       read = move.read;
     }
 
 abbrev pub ordering : Order → Move → Move
-ordering order move = record { state = move.state; next = move.next; note = move.note; ending = move.ending; order = order; read = move.read }
+ordering order move = record { state = move.state; next = move.next; note = move.note; ending = move.ending; order = Some order; read = move.read }
 
 abbrev pub reading : (read : ℕ) → Move → Move
 reading read move = record { state = move.state; next = move.next; note = move.note; ending = move.ending; order = move.order; read = read }
@@ -91,21 +91,21 @@ abbrev pub one_more_visit : State → (node : ℕ) → State
 one_more_visit state node = with_visits state node ((visits_of state node).count + 1) (state.activations + 1)
 
 -- A mapping answer by its kind.
-abbrev pub evaluated_as : Mapping → Evaluated
+abbrev pub evaluated_as : Mapping → Result ℕ NoValue
 evaluated_as mapping =
-    when eqb mapping.kind value then Evaluated.Value mapping.value else
-    when eqb mapping.kind fault then Evaluated.Fault mapping.code mapping.detail else
-    Evaluated.Unencodable
+    when eqb mapping.kind value then Ok mapping.value else
+    when eqb mapping.kind fault then Err (Fault mapping.code mapping.detail) else
+    Err Unencodable
 
 abbrev pub no_mapping : Mapping
 no_mapping = record { kind = 0; value = 0; code = 0; detail = 0; operations = 0 }
 
 -- The mapping answer of a call at an index; past the count it is lacking.
-unfoldable pub answer : Mappings → ℕ → Evaluated
-answer mappings index = when ltb index mappings.count then evaluated_as (get_or mappings.answers index no_mapping) else Evaluated.Lacking
+unfoldable pub answer : Mappings → ℕ → Result ℕ NoValue
+answer mappings index = when ltb index mappings.count then evaluated_as (get_or mappings.answers index no_mapping) else Err Lacking
 
 -- The invocation in another phase (the original's `InvocationState.state`), with the error that it keeps.
-abbrev pub phased : InvocationState → (phase attempt : ℕ) → Kept → InvocationState
+abbrev pub phased : InvocationState → (phase attempt : ℕ) → Option ErrorInfo → InvocationState
 phased invocation phase attempt kept =
     record {
       phase = phase;
@@ -134,15 +134,19 @@ module _ (sheet : Workflow) where
   unfoldable pub terminate : State → ErrorInfo → Move
   terminate state why = still (finished state run_failed (record { output = Output.Error why })) Rest
 
-  -- A mapping is evaluated, the read-th answer that is read; `go_on` is what follows a value. A fault fails the run at that node.
-  unfoldable pub evaluate : Evaluated → State → (node field from read : ℕ) → (ℕ → Move) → Move
-  evaluate (Evaluated.Value handle) state node field from read go_on = go_on handle
-  evaluate (Evaluated.Fault code detail) state node field from read go_on = reading read (terminate state (error code node detail))
-  evaluate Evaluated.Unencodable state node field from read go_on = still state (Refuse Refusal.Unencodable)
-  evaluate Evaluated.Lacking state node field from read go_on = still state (Wants node field from)
+  -- What follows a mapping that has no value: a fault fails the run at that node, else the call goes no further.
+  unfoldable pub without_value : NoValue → State → (node field from read : ℕ) → Move
+  without_value (Fault code detail) state node field from read = reading read (terminate state (error code node detail))
+  without_value Unencodable state node field from read = still state (Refuse Refusal.Unencodable)
+  without_value Lacking state node field from read = still state (Wants node field from)
+
+  -- A mapping is evaluated, the read-th answer that is read; `go_on` is what follows a value.
+  unfoldable pub evaluate : Result ℕ NoValue → State → (node field from read : ℕ) → (ℕ → Move) → Move
+  evaluate (Ok handle) state node field from read go_on = go_on handle
+  evaluate (Err why) state node field from read go_on = without_value why state node field from read
 
   -- The first attempt of an activity that was entered is ordered.
-  unfoldable pub schedule : State → (node input : ℕ) → Params → Move
+  unfoldable pub schedule : State → (node input : ℕ) → Option ℕ → Move
   schedule state node input params =
       let visit = (visits_of state node).count in
       let action = (node_of sheet node).action in
@@ -166,7 +170,7 @@ module _ (sheet : Workflow) where
         action = action;
         attempt = 1;
         input = input;
-        error = Kept.Nothing;
+        error = None;
       }))
       Rest)
 
@@ -175,8 +179,8 @@ module _ (sheet : Workflow) where
   enter_activity state node from mappings =
       evaluate (answer mappings 0) state node field_input from 1 (λ input.
       when eqb (node_of sheet node).has_params 1
-      then evaluate (answer mappings 1) state node field_params from 2 (λ params. reading 2 (schedule state node input (Params.Handle params)))
-      else reading 1 (schedule state node input Params.Nothing))
+      then evaluate (answer mappings 1) state node field_params from 2 (λ params. reading 2 (schedule state node input (Some params)))
+      else reading 1 (schedule state node input None))
 
   -- An await-signal node waits there, and looks at the store.
   unfoldable pub enter_await : State → (node : ℕ) → Move
@@ -261,4 +265,4 @@ module _ (sheet : Workflow) where
         visit = invocation.visit;
         attempt = invocation.attempt + 1;
       }))
-      (still (placed state running state.position (phased invocation scheduled (invocation.attempt + 1) Kept.Nothing)) Rest))
+      (still (placed state running state.position (phased invocation scheduled (invocation.attempt + 1) None)) Rest))

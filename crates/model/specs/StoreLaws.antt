@@ -1,20 +1,24 @@
 -- What the store does, as a list: a signal is stored, or goes; and its part of the run check, place by place.
-use Rattle.std.specs.Prelude.{◌≡◌, Bool, not, get_or, set, take, drop, replicate, length, ltb, Some, None}
+use Rattle.std.specs.List.{list_all, position, position_from, copy_within}
+use Rattle.std.proofs.lemmas.Iterator.Adapters.{position_from-zero}
+use Rattle.std.proofs.lemmas.List.Quantifiers.{position-Some}
+use Rattle.std.proofs.lemmas.List.{drop_all, take_min}
+use Rattle.std.proofs.Math.Seq.{set-append_seam}
+use Rattle.std.specs.Prelude.{◌≡◌, Option, Some, None, Bool, get_or, set, take, drop, replicate, length, ltb, eqb}
 use Rattle.std.proofs.Math.Path.{refl, sym, ap}
-use Rattle.std.proofs.Common.{◌∙◌, length-set, length-take, take_all, take-suc-set, drop-set-lt, drop-cons, lt-ltb, le-leb, leb-true, ltb-true, ltb-false}
+use Rattle.std.proofs.Common.{◌∙◌, length-append, length-set, length-take, length-drop, take_all, take-suc-set, drop-set-lt, drop-cons, lt-ltb, le-leb, leb-true, ltb-true, ltb-false}
 use Rattle.std.proofs.Math.Bool.{true, false}
-use Rattle.std.proofs.lemmas.Bool.{false≢true, lt-leb}
+use Rattle.std.proofs.lemmas.Bool.{lt-leb}
 use mathlib.Core.List.{List, [], ◌∷◌, ◌++◌, map-append}
 use Prim.Native.Nat.{ℕ, zero, suc, ◌+◌, ◌-◌, ◌≤◌, ◌<◌, min}
+use Rattle.std.proofs.Math.Dec.{leb}
 use native.Mathlib.Omega.{arith}
 use Rattle.std.proofs.Math.Numerals.{add-one}
 use Rattle.std.proofs.lemmas.List.{length-map}
 use Rattle.std.proofs.Math.Seq.{take-suc}
-use Rattle.std.proofs.Math.Dec.{leb-suc-zero, leb-suc-suc}
-use Rattle.laws.specs.Bool.{when◌then◌else◌, ◌and◌, if_true, and_true, and_left, both, join, split}
-use Rattle.laws.specs.First.{first, Seek}
-use Rattle.laws.specs.Rows.{rows, span}
-use Rattle.laws.specs.Every.{every, below, every_then, every_append, every_remove}
+use Rattle.laws.specs.Bool.{when◌then◌else◌, ◌and◌, if_true, both, join, split}
+use Rattle.laws.specs.First.{first}
+use Rattle.laws.specs.Every.{every, every_append, every_remove}
 use Rattle.laws.specs.Listing.{padded, Listing, listing_none, listing_more}
 use Rattle.laws.specs.Shift.{remove_at, without, take_without, drop_without, length_without}
 use Rattle.model.specs.Code.{store, largest, end_left_over}
@@ -135,6 +139,61 @@ module _ {none : Ending} {signals : List BufferedSignal} {count i : ℕ} {ending
   unfolding listed
   leaving_all h = l.listed_so.is ∙ rw (all_taken (omega (arith, l.low)))
 
+-- THE FIRST OF A NAME, where i is its place: the signal, and the record without it.
+unfoldable pub found_at : State → Option ℕ → Option BufferedSignal
+found_at s (Some i) = Some (signal_at s i)
+found_at s None = None
+
+unfoldable pub left_at : State → Option ℕ → State
+left_at s (Some i) = removed s i
+left_at s None = s
+
+first_position : {A : Type 0} (p : A → Bool) (j : ℕ) (xs : List A) → first p (λ i _. Some i) None j xs ≡ position_from p j xs
+unfolding first when◌then◌else◌
+first_position p j [] = refl
+first_position p j (x ∷ xs) = split (p x) (λ h. rw h) (λ h. rw h (first_position p (j + 1) xs))
+
+-- The later ones moved down by one, and the last place cleared: the element at i is left out.
+remove_at_parts : {A : Type 0} (i : ℕ) (xs : List A) → i < length xs → remove_at i xs ≡ take i xs ++ drop (i + 1) xs
+unfolding remove_at
+remove_at_parts i [] h = absurd (omega arith)
+remove_at_parts zero (x ∷ xs) h = refl
+remove_at_parts {A} (suc i) (x ∷ xs) h = let e : suc i + 1 ≡ suc (i + 1) = omega arith in rw e (ap {B = List A} (λ r. x ∷ r) (remove_at_parts i xs (omega arith)))
+
+moved_down : {A : Type 0} (z : A) (xs : List A) (i n : ℕ) → length xs ≡ suc n → i ≤ n → set (copy_within xs (i + 1) (length xs) i) n z ≡ without z xs i
+unfolding without
+moved_down {A} z xs i n long h =
+    let ys : List A = take i xs ++ drop (i + 1) xs in
+    let m : length ys ≡ n = omega (arith, length-append (take i xs) (drop (i + 1) xs), length-take i xs, length-drop (i + 1) xs) in
+    let e : take (length xs - (i + 1)) (drop (i + 1) xs) ≡ drop (i + 1) xs = take_all _ _ (omega (arith, length-drop (i + 1) xs)) in
+    let g : i + (length xs - (i + 1)) ≡ n = omega arith in
+    let d : drop n xs ≡ get_or xs n z ∷ [] = drop-cons xs n z (omega arith) ∙ ap {B = List A} (λ r. get_or xs n z ∷ r) (drop_all (suc n) xs (omega arith)) in
+    rw (e, g, d, remove_at_parts i xs (omega arith)) (sym (ap (λ j. set (ys ++ (get_or xs n z ∷ [])) j z) m) ∙ set-append_seam ys (get_or xs n z) [] z)
+
+-- In code: rows are the places that are looked at, o the first of the name among them.
+module _ (s : State) (name : ℕ) {rows : ℕ} {o : Option ℕ} (long : length s.signals ≡ 64) (all : rows ≡ min store s.signal_count) (found : o ≡ position (λ x. eqb x.signal name) (take rows s.signals)) where
+  first_is : first_signal s name ≡ o
+  unfolding first_signal listed
+  first_is =
+      let k : rows ≡ min s.signal_count (length s.signals) = omega arith in
+      let e : take rows s.signals ≡ take s.signal_count s.signals = ap {B = List BufferedSignal} (λ j. take j s.signals) k ∙ take_min s.signal_count s.signals in
+      first_position (λ x. eqb x.signal name) 0 (take s.signal_count s.signals) ∙ rw (found, e, ← position_from-zero (λ x. eqb x.signal name) (take s.signal_count s.signals))
+
+  pub first_none : {r : Option BufferedSignal} → o ≡ None → r ≡ None → (r ≡ found_at s (first_signal s name)) × (s ≡ left_at s (first_signal s name))
+  unfolding found_at left_at
+  first_none h g = rw (first_is, h) (g, refl)
+
+  module _ {i : ℕ} (here : o ≡ Some i) where
+    inside : i < min store s.signal_count
+    inside = omega (arith, (position-Some (λ x. eqb x.signal name) (take rows s.signals) i no_signal (sym found ∙ here)).0, length-take rows s.signals)
+
+    pub first_some : {xs : List BufferedSignal} {z : BufferedSignal} → z ≡ no_signal → xs ≡ copy_within s.signals (i + 1) (length s.signals) i
+        → (Some (get_or s.signals i no_signal) ≡ found_at s (first_signal s name)) × (set_signals s (set xs 63 z) (s.signal_count - 1) ≡ left_at s (first_signal s name))
+    unfolding found_at left_at removed
+    first_some h g =
+        rw (first_is, here)
+        (ap Some (signal_here s i (omega (arith, inside))), rw (h, g, moved_down no_signal s.signals i 63 long (omega (arith, inside))) (sym (if_true _ _ _ (lt-ltb i (min store s.signal_count) inside))))
+
 -- THE RUN CHECK'S PART is kept.
 record Parts (signals : List BufferedSignal) (count : ℕ) : Type 0 where
   room : count ≤ store
@@ -183,55 +242,29 @@ fits_removed s i t h e =
 pub fits_few : (s : State) → store_fits s ≡ true → s.signal_count ≤ 64
 fits_few s e = (parts s.signals s.signal_count e).room
 
--- THE RUN CHECK'S PART, one place at a time: a stored signal, or an unused slot.
-unfoldable pub signal_fits : (count place : ℕ) → BufferedSignal → Bool
-signal_fits k n x = when ltb n k then in_sequence x else signal_zero x
+-- THE RUN CHECK'S PART, in code: the parts of the store pass as the library says it.
+pub every_all : {A : Type 0} (p : A → Bool) (xs : List A) → list_all p xs ≡ every p xs
+unfolding every ◌and◌
+every_all p [] = refl
+every_all p (x ∷ xs) = split (p x) (λ h. rw (h, every_all p xs)) (λ h. rw h)
 
-module _ {A : Type 0} (p q : A → Bool) (d : A) where
-  -- those before k pass p, the others q
-  abbrev at : List A → (k : ℕ) → ℕ → Bool
-  at xs k = λ n. when ltb n k then p (get_or xs n d) else q (get_or xs n d)
+pub crowded : (signals : List BufferedSignal) (count : ℕ) → store < count → false ≡ signals_fit signals count
+unfolding signals_fit ◌and◌
+crowded xs k h = sym (simp (lt-leb _ _ h))
 
-  shifted : (r : ℕ → Bool) (i k : ℕ) → every r (rows (λ n. n) (suc i) k) ≡ every (λ n. r (suc n)) (rows (λ n. n) i k)
-  unfolding every rows
-  shifted r i zero = refl
-  shifted r i (suc k) = rw (add-one, add-one, shifted r (suc i) k)
-
-  tail : (x : A) (xs : List A) (j k i : ℕ) → ((n : ℕ) → ltb (suc n) k ≡ ltb n j) → every (at xs j) (rows (λ n. n) 0 i) ≡ every (at (x ∷ xs) k) (rows (λ n. n) 1 i)
-  tail x xs j k i h = sym (shifted (at (x ∷ xs) k) 0 i ∙ simp h)
-
-  parted : (xs : List A) (k : ℕ) → every p (take k xs) and every q (drop k xs) ≡ every (at xs k) (rows (λ n. n) 0 (length xs))
-  unfolding every rows ◌and◌ when◌then◌else◌
-  parted [] zero = refl
-  parted [] (suc k) = refl
-  parted (x ∷ xs) zero = ap (λ b. q x and b) (parted xs zero ∙ tail x xs 0 0 (length xs) (λ n. leb-suc-zero (suc n) ∙ sym (leb-suc-zero n)))
-  parted (x ∷ xs) (suc k) =
-      rw (lt-ltb 0 (suc k) (omega arith))
-      (sym (and_left (p x) (every p (take k xs)) (every q (drop k xs))) ∙ ap (λ b. p x and b) (parted xs k ∙ tail x xs k (suc k) (length xs) (λ n. leb-suc-suc (suc n) k)))
-
--- The loop at place i: what is left of the check is the places from i on.
+-- Those that are stored are in sequence, and the others are zero where b; or they aren't.
 module _ (signals : List BufferedSignal) (count : ℕ) where
-  abbrev slot_fits : ℕ → Bool
-  slot_fits n = signal_fits count n (get_or signals n no_signal)
+  pub numbered : {b : Bool} → count ≤ store → length signals ≡ 64 → list_all in_sequence (take count signals) ≡ true
+      → b ≡ list_all signal_zero (take (length signals - count) (drop count signals)) → b ≡ signals_fit signals count
+  unfolding signals_fit listed ◌and◌
+  numbered h long e g =
+      let d : take (length signals - count) (drop count signals) ≡ drop count signals = take_all _ _ (omega (arith, length-drop count signals)) in
+      let n : leb count store ≡ true = le-leb _ _ h in
+      let m : every in_sequence (take count signals) ≡ true = sym (every_all in_sequence (take count signals)) ∙ e in
+      g ∙ rw (d, n, m) (every_all signal_zero (drop count signals))
 
-  abbrev pub Places : ℕ → Type 0
-  Places i = Seek (λ n. not (slot_fits n)) (λ _ _. false) true (λ n. n) 64 i (signals_fit signals count)
-
-  each_place : length signals ≡ 64 → every in_sequence (listed signals count) and every signal_zero (drop count signals) ≡ below 64 slot_fits
-  unfolding listed span signal_fits
-  each_place h = parted in_sequence signal_zero no_signal signals count ∙ rw h
-
-  passed : (a b : Bool) → a ≡ true → a and b ≡ b
-  unfolding ◌and◌
-  passed true b h = refl
-  passed false b h = absurd (false≢true h)
-
-  pub places_start : length signals ≡ 64 → count ≤ store → Places 0
-  unfolding signals_fit
-  places_start h k =
-      let e = every_then slot_fits true 0 (span (λ n. n) 0 64) in
-      record { left = e ∙ (sym (and_true (below 64 slot_fits)) ∙ sym (passed _ _ (le-leb _ _ k) ∙ each_place h)) }
-
-  pub crowded : store < count → false ≡ signals_fit signals count
-  unfolding signals_fit ◌and◌
-  crowded h = sym (simp (lt-leb _ _ h))
+  pub unnumbered : list_all in_sequence (take count signals) ≡ false → false ≡ signals_fit signals count
+  unfolding signals_fit listed ◌and◌
+  unnumbered e =
+      let m : every in_sequence (take count signals) ≡ false = sym (every_all in_sequence (take count signals)) ∙ e in
+      split (leb count store) (λ h. rw (h, m)) (λ h. rw h)

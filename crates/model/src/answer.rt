@@ -5,12 +5,6 @@ ghost use Rattle.model.specs.Answers.{params_numbers, order_numbers, answer_numb
 use workflow::refusal::Refusal;
 
 #[derive(Clone, Copy)]
-pub enum Params {
-    Nothing,
-    Handle(u32),
-}
-
-#[derive(Clone, Copy)]
 pub struct ScheduleActivity {
     pub not_before: u64,
     pub node: u32,
@@ -18,7 +12,8 @@ pub struct ScheduleActivity {
     pub action: u32,
     pub attempt: u32,
     pub input: u32,
-    pub params: Params,
+    // the params' handle, if the node has params
+    pub params: Option<u32>,
 }
 
 #[derive(Clone, Copy)]
@@ -29,10 +24,9 @@ pub struct RetryActivity {
     pub attempt: u32,
 }
 
-// The command of a call, if there is one.
+// The command of a call.
 #[derive(Clone, Copy)]
 pub enum Order {
-    Nothing,
     Schedule(ScheduleActivity),
     Retry(RetryActivity),
 }
@@ -56,49 +50,56 @@ pub struct Ending {
 // One of three: a next record with its order and microsteps; a want of one mapping value; a refusal.
 #[derive(Clone, Copy)]
 pub enum Answer {
-    Next { order: Order, microsteps: u32 },
-    Wants { node: u32, field: u32, from: u32 },
-    Refused { refusal: Refusal, item: u32 },
+    Next {
+        order: Option<Order>,
+        microsteps: u32,
+    },
+    Wants {
+        node: u32,
+        field: u32,
+        from: u32,
+    },
+    Refused {
+        refusal: Refusal,
+        item: u32,
+    },
 }
 
-impl Params {
-    pub fn numbers(self) -> [u64; 2]
-        ensures { result ≡ params_numbers self }
-    {
-        match self {
-            Params::Nothing => [0, 0],
-            Params::Handle(x) => [1, x as u64],
-        }
+// The numbers of an order's params.
+pub fn params_numbers(params: Option<u32>) -> [u64; 2]
+    ensures { result ≡ params_numbers params }
+{
+    match params {
+        None => [0, 0],
+        Some(handle) => [1, u64::from(handle)],
     }
 }
 
 impl Order {
     pub fn numbers(self) -> [u64; 9]
-        ensures { result ≡ order_numbers self }
+        ensures { result ≡ order_numbers (Some self) }
     {
         match self {
-            Order::Nothing => [0; 9],
             Order::Schedule(x) => {
-                let kept = x.params;
-                let params = kept.numbers();
+                let params = params_numbers(x.params);
                 [
                     1,
-                    x.node as u64,
-                    x.visit as u64,
-                    x.action as u64,
-                    x.attempt as u64,
+                    u64::from(x.node),
+                    u64::from(x.visit),
+                    u64::from(x.action),
+                    u64::from(x.attempt),
                     x.not_before,
-                    x.input as u64,
+                    u64::from(x.input),
                     params[0],
                     params[1],
                 ]
             }
             Order::Retry(x) => [
                 2,
-                x.node as u64,
-                x.visit as u64,
+                u64::from(x.node),
+                u64::from(x.visit),
                 0,
-                x.attempt as u64,
+                u64::from(x.attempt),
                 x.not_before,
                 0,
                 0,
@@ -108,16 +109,26 @@ impl Order {
     }
 }
 
+// The numbers of a call's order, if there is one.
+pub fn order_numbers(order: Option<Order>) -> [u64; 9]
+    ensures { result ≡ order_numbers order }
+{
+    match order {
+        None => [0; 9],
+        Some(x) => x.numbers(),
+    }
+}
+
 impl Answer {
     pub fn numbers(self) -> [u64; 11]
         ensures { result ≡ answer_numbers self }
     {
         match self {
             Answer::Next { order, microsteps } => {
-                let o = order.numbers();
+                let o = order_numbers(order);
                 [
                     1,
-                    microsteps as u64,
+                    u64::from(microsteps),
                     o[0],
                     o[1],
                     o[2],
@@ -131,9 +142,9 @@ impl Answer {
             }
             Answer::Wants { node, field, from } => [
                 2,
-                node as u64,
-                field as u64,
-                from as u64,
+                u64::from(node),
+                u64::from(field),
+                u64::from(from),
                 0,
                 0,
                 0,
@@ -145,7 +156,7 @@ impl Answer {
             Answer::Refused { refusal, item } => [
                 3,
                 u64::from(refusal.number()),
-                item as u64,
+                u64::from(item),
                 0,
                 0,
                 0,

@@ -2,14 +2,14 @@
 ghost use Rattle.std.specs.Prelude.{◌≡◌, true, ◌+◌, ◌<◌};
 ghost use Rattle.workflow.specs.View.{Workflow, workflow};
 ghost use Rattle.model.specs.Record.{visits_of, finished};
-ghost use Rattle.model.specs.Step.{still, reading, error, answer, terminate, schedule, enter_activity, enter_await, enter_complete, arrive, enter};
-ghost use Rattle.model.specs.EnterLaws.{value_of, without_value, enter_with_params, made, Shows, counted, Uncounted, Room, destination, entering};
+ghost use Rattle.model.specs.Step.{still, reading, error, answer, terminate, without_value, schedule, enter_activity, enter_await, enter_complete, arrive, enter};
+ghost use Rattle.model.specs.EnterLaws.{enter_with_params, settled, made, Shows, counted, Uncounted, Room, destination, entering};
 
-use crate::answer::{Order, Params, ScheduleActivity};
-use crate::event::{Evaluated, Mappings};
-use crate::moves::{Move, Next, no_ending, no_note, still};
+use crate::answer::{Order, ScheduleActivity};
+use crate::event::{Mappings, NoValue};
+use crate::moves::{Move, Next, still};
 use crate::time::planned;
-use crate::{ErrorInfo, InvocationState, Kept, Output, Position, RunResult, State, Visits, code};
+use crate::{ErrorInfo, InvocationState, Output, Position, RunResult, State, Visits, code};
 use workflow::code as sheet;
 use workflow::layout::{NODES, NUMBERS};
 use workflow::refusal::Refusal;
@@ -23,60 +23,55 @@ fn one_more(count: u32, limit: u32) -> u32
 }
 
 impl Mappings {
-    // The i-th mapping answer of a call.
-    pub fn answer(self, i: u32) -> Evaluated
+    // The i-th mapping answer of a call: its value, or why there is none.
+    pub fn answer(self, i: u32) -> Result<u32, NoValue>
         ensures { result ≡ answer self i }
     {
         let n = i as usize;
         if self.count <= i {
-            return Evaluated::Lacking;
+            return Err(NoValue::Lacking);
         }
         if 2 <= n {
-            return Evaluated::Unencodable;
+            return Err(NoValue::Unencodable);
         }
         let x = self.answers[n];
-        if x.kind == code::VALUE {
-            return Evaluated::Value(x.value);
-        }
-        if x.kind == code::FAULT {
-            return Evaluated::Fault {
+        match x.kind {
+            code::VALUE => Ok(x.value),
+            code::FAULT => Err(NoValue::Fault {
                 code: x.code,
                 detail: x.detail,
-            };
-        }
-        Evaluated::Unencodable
-    }
-}
-
-impl Evaluated {
-    // The value, if it is one.
-    fn value(self) -> Option<u32>
-        ensures { result ≡ value_of self }
-    {
-        match self {
-            Evaluated::Value(x) => Some(x),
-            Evaluated::Fault { code: _, detail: _ } => None,
-            Evaluated::Unencodable => None,
-            Evaluated::Lacking => None,
+            }),
+            _ => Err(NoValue::Unencodable),
         }
     }
 }
 
-// What entering a node makes of a run: what is stored where a flag says so, and what the move says.
+// Where an entry leaves the run.
+#[derive(Clone, Copy)]
+enum Standing {
+    // where it was
+    Unmoved,
+    // at the node that was entered
+    Placed {
+        status: u32,
+        position: Position,
+        invocation: InvocationState,
+    },
+    // at its end
+    Finished {
+        status: u32,
+        output: Output,
+    },
+}
+
+// What entering a node makes of a run: what is stored, and what the move says.
 #[derive(Clone, Copy)]
 struct Entry {
     // the node is entered: one more visit and one more activation
     entered: bool,
-    // the run stands at `position` with `status` and `invocation`
-    placed: bool,
-    // the run has ended with `output`
-    ended: bool,
-    status: u32,
-    position: Position,
-    invocation: InvocationState,
-    output: Output,
+    standing: Standing,
     next: Next,
-    order: Order,
+    order: Option<Order>,
     read: u32,
 }
 
@@ -86,15 +81,10 @@ fn staying(entered: bool, next: Next) -> Entry
     ensures entered_value { result.entered ≡ entered }
 {
     Entry {
-        entered: entered,
-        placed: false,
-        ended: false,
-        status: 0,
-        position: Position::none(),
-        invocation: InvocationState::none(),
-        output: Output::Nothing,
-        next: next,
-        order: Order::Nothing,
+        entered,
+        standing: Standing::Unmoved,
+        next,
+        order: None,
         read: 0,
     }
 }
@@ -105,16 +95,11 @@ fn finishing(entered: bool, status: u32, output: Output, read: u32) -> Entry
     ensures entered_value { result.entered ≡ entered }
 {
     Entry {
-        entered: entered,
-        placed: true,
-        ended: true,
-        status: status,
-        position: Position::none(),
-        invocation: InvocationState::none(),
-        output: output,
+        entered,
+        standing: Standing::Finished { status, output },
         next: Next::Rest,
-        order: Order::Nothing,
-        read: read,
+        order: None,
+        read,
     }
 }
 
@@ -128,168 +113,136 @@ fn failing(entered: bool, code: u32, node: u32, detail: u32, read: u32) -> Entry
 }
 
 // A mapping that has no value: a fault fails the run at that node, else the call goes no further.
-fn halting(answer: Evaluated, node: u32, field: u32, from: u32, read: u32) -> Entry
-    ensures result_value { (f : Workflow) (s : State) → made s result ≡ without_value f answer s node field from read }
+fn halting(why: NoValue, node: u32, field: u32, from: u32, read: u32) -> Entry
+    ensures result_value { (f : Workflow) (s : State) → made s result ≡ without_value f why s node field from read }
     ensures entered_value { result.entered ≡ true }
 {
-    match answer {
-        Evaluated::Value(_) => staying(true, Next::Rest),
-        Evaluated::Fault { code, detail } => failing(true, code, node, detail, read),
-        Evaluated::Unencodable => staying(true, Next::Refuse(Refusal::Unencodable)),
-        Evaluated::Lacking => staying(
-            true,
-            Next::Wants {
-                node: node,
-                field: field,
-                from: from,
+    match why {
+        NoValue::Fault { code, detail } => failing(true, code, node, detail, read),
+        NoValue::Unencodable => staying(true, Next::Refuse(Refusal::Unencodable)),
+        NoValue::Lacking => staying(true, Next::Wants { node, field, from }),
+    }
+}
+
+// A node that is entered for a visit: the last accepted time, the node come from, and the mapping answers of the call.
+#[derive(Clone, Copy)]
+struct Entering {
+    node: u32,
+    visit: u32,
+    last_accepted_at: u64,
+    from: u32,
+    mappings: Mappings,
+}
+
+impl Entering {
+    // The first attempt of an activity is ordered.
+    fn scheduling(self, w: &[u32; NUMBERS], input: u32, params: Option<u32>, read: u32) -> Entry
+        ensures result_value { (s : State) → Shows s self.node self.visit self.last_accepted_at → made s result ≡ reading read (schedule (workflow w.now) s self.node input params) }
+        ensures entered_value { result.entered ≡ true }
+    {
+        let Entering { node, visit, .. } = self;
+        let action = workflow::node_of(w, node).action;
+        let invocation = InvocationState {
+            phase: code::SCHEDULED,
+            node,
+            visit,
+            action,
+            attempt: 1,
+            input,
+            error: None,
+        };
+        let ordered = ScheduleActivity {
+            not_before: planned(w, self.last_accepted_at, 0),
+            node,
+            visit,
+            action,
+            attempt: 1,
+            input,
+            params,
+        };
+        Entry {
+            entered: true,
+            standing: Standing::Placed {
+                status: code::RUNNING,
+                position: Position::at(node, visit),
+                invocation,
             },
-        ),
+            next: Next::Rest,
+            order: Some(Order::Schedule(ordered)),
+            read,
+        }
     }
-}
 
-// The first attempt of an activity that was entered is ordered.
-fn scheduling(
-    w: &[u32; NUMBERS],
-    node: u32,
-    visit: u32,
-    last: u64,
-    input: u32,
-    params: Params,
-    read: u32,
-) -> Entry
-    ensures result_value { (s : State) → Shows s node visit last → made s result ≡ reading read (schedule (workflow w.now) s node input params) }
-    ensures entered_value { result.entered ≡ true }
-{
-    let row = workflow::node_of(w, node);
-    let invocation = InvocationState {
-        phase: code::SCHEDULED,
-        node: node,
-        visit: visit,
-        action: row.action,
-        attempt: 1,
-        input: input,
-        error: Kept::Nothing,
-    };
-    let ordered = ScheduleActivity {
-        not_before: planned(w, last, 0),
-        node: node,
-        visit: visit,
-        action: row.action,
-        attempt: 1,
-        input: input,
-        params: params,
-    };
-    Entry {
-        entered: true,
-        placed: true,
-        ended: false,
-        status: code::RUNNING,
-        position: Position::at(node, visit),
-        invocation: invocation,
-        output: Output::Nothing,
-        next: Next::Rest,
-        order: Order::Schedule(ordered),
-        read: read,
+    // The params of an activity whose input is known.
+    fn with_params(self, w: &[u32; NUMBERS], input: u32) -> Entry
+        ensures result_value { (s : State) → Shows s self.node self.visit self.last_accepted_at → made s result ≡ enter_with_params (workflow w.now) s self.node self.from self.mappings input }
+        ensures entered_value { result.entered ≡ true }
+    {
+        match self.mappings.answer(1) {
+            Ok(params) => self.scheduling(w, input, Some(params), 2),
+            Err(why) => halting(why, self.node, code::FIELD_PARAMS, self.from, 2),
+        }
     }
-}
 
-// The params of an activity whose input is known.
-fn with_params(
-    w: &[u32; NUMBERS],
-    node: u32,
-    visit: u32,
-    last: u64,
-    from: u32,
-    mappings: Mappings,
-    input: u32,
-) -> Entry
-    ensures result_value { (s : State) → Shows s node visit last → made s result ≡ enter_with_params (workflow w.now) s node from mappings input }
-    ensures entered_value { result.entered ≡ true }
-{
-    let answer = mappings.answer(1);
-    let Some(params) = answer.value() else {
-        return halting(answer, node, code::FIELD_PARAMS, from, 2);
-    };
-    scheduling(w, node, visit, last, input, Params::Handle(params), 2)
-}
+    // An activity needs its input, then its params if any.
+    fn activity(self, w: &[u32; NUMBERS]) -> Entry
+        ensures result_value { (s : State) → Shows s self.node self.visit self.last_accepted_at → made s result ≡ enter_activity (workflow w.now) s self.node self.from self.mappings }
+        ensures entered_value { result.entered ≡ true }
+    {
+        match self.mappings.answer(0) {
+            Ok(input) => {
+                let row = workflow::node_of(w, self.node);
+                if row.has_params == 1 {
+                    return self.with_params(w, input);
+                }
+                self.scheduling(w, input, None, 1)
+            }
+            Err(why) => halting(why, self.node, code::FIELD_INPUT, self.from, 1),
+        }
+    }
 
-// An activity needs its input, then its params if any.
-fn activity(
-    w: &[u32; NUMBERS],
-    node: u32,
-    visit: u32,
-    last: u64,
-    from: u32,
-    mappings: Mappings,
-) -> Entry
-    ensures result_value { (s : State) → Shows s node visit last → made s result ≡ enter_activity (workflow w.now) s node from mappings }
-    ensures entered_value { result.entered ≡ true }
-{
-    let answer = mappings.answer(0);
-    let Some(input) = answer.value() else {
-        return halting(answer, node, code::FIELD_INPUT, from, 1);
-    };
-    let row = workflow::node_of(w, node);
-    if row.has_params == 1 {
-        return with_params(w, node, visit, last, from, mappings, input);
+    // A complete node needs its output.
+    fn completing(self) -> Entry
+        ensures result_value { (f : Workflow) (s : State) → made s result ≡ enter_complete f s self.node self.from self.mappings }
+        ensures entered_value { result.entered ≡ true }
+    {
+        match self.mappings.answer(0) {
+            Ok(output) => finishing(true, code::RUN_COMPLETED, Output::Handle(output), 1),
+            Err(why) => halting(why, self.node, code::FIELD_OUTPUT, self.from, 1),
+        }
     }
-    scheduling(w, node, visit, last, input, Params::Nothing, 1)
-}
 
-// A complete node needs its output.
-fn completing(node: u32, from: u32, mappings: Mappings) -> Entry
-    ensures result_value { (f : Workflow) (s : State) → made s result ≡ enter_complete f s node from mappings }
-    ensures entered_value { result.entered ≡ true }
-{
-    let answer = mappings.answer(0);
-    let Some(output) = answer.value() else {
-        return halting(answer, node, code::FIELD_OUTPUT, from, 1);
-    };
-    finishing(true, code::RUN_COMPLETED, Output::Handle(output), 1)
-}
+    // An await-signal node waits there, and looks at the store.
+    fn awaiting(self) -> Entry
+        ensures result_value { (f : Workflow) (s : State) → (visits_of s self.node).count ≡ self.visit → made s result ≡ enter_await f s self.node }
+        ensures entered_value { result.entered ≡ true }
+    {
+        Entry {
+            entered: true,
+            standing: Standing::Placed {
+                status: code::WAITING,
+                position: Position::at(self.node, self.visit),
+                invocation: InvocationState::none(),
+            },
+            next: Next::Consume,
+            order: None,
+            read: 0,
+        }
+    }
 
-// An await-signal node waits there, and looks at the store.
-fn awaiting(node: u32, visit: u32) -> Entry
-    ensures result_value { (f : Workflow) (s : State) → (visits_of s node).count ≡ visit → made s result ≡ enter_await f s node }
-    ensures entered_value { result.entered ≡ true }
-{
-    Entry {
-        entered: true,
-        placed: true,
-        ended: false,
-        status: code::WAITING,
-        position: Position::at(node, visit),
-        invocation: InvocationState::none(),
-        output: Output::Nothing,
-        next: Next::Consume,
-        order: Order::Nothing,
-        read: 0,
+    // The node that was entered, by its kind.
+    fn arriving(self, w: &[u32; NUMBERS]) -> Entry
+        ensures result_value { (s : State) → Shows s self.node self.visit self.last_accepted_at → made s result ≡ arrive (workflow w.now) s self.node self.from self.mappings }
+        ensures entered_value { result.entered ≡ true }
+    {
+        let row = workflow::node_of(w, self.node);
+        match row.kind {
+            sheet::ACTIVITY => self.activity(w),
+            sheet::AWAIT_SIGNAL => self.awaiting(),
+            sheet::COMPLETE => self.completing(),
+            _ => failing(true, row.code, self.node, row.detail, 0),
+        }
     }
-}
-
-// The node that was entered, by its kind.
-fn arriving(
-    w: &[u32; NUMBERS],
-    node: u32,
-    visit: u32,
-    last: u64,
-    from: u32,
-    mappings: Mappings,
-) -> Entry
-    ensures result_value { (s : State) → Shows s node visit last → made s result ≡ arrive (workflow w.now) s node from mappings }
-    ensures entered_value { result.entered ≡ true }
-{
-    let row = workflow::node_of(w, node);
-    if row.kind == sheet::ACTIVITY {
-        return activity(w, node, visit, last, from, mappings);
-    }
-    if row.kind == sheet::AWAIT_SIGNAL {
-        return awaiting(node, visit);
-    }
-    if row.kind == sheet::COMPLETE {
-        return completing(node, from, mappings);
-    }
-    failing(true, row.code, node, row.detail, 0)
 }
 
 // Entering tests visits, then activations, then adds one to both; the rest is by the node's kind.
@@ -297,12 +250,12 @@ fn entry_of(
     w: &[u32; NUMBERS],
     visits: u32,
     activations: u32,
-    last: u64,
+    last_accepted_at: u64,
     node: u32,
     from: u32,
     mappings: Mappings,
 ) -> Entry
-    ensures result_value { (s : State) → Uncounted s node visits activations last → made (counted s node result) result ≡ enter (workflow w.now) s node from mappings }
+    ensures result_value { (s : State) → Uncounted s node visits activations last_accepted_at → made (counted s node result) result ≡ enter (workflow w.now) s node from mappings }
     ensures room { result.entered ≡ true → Room (workflow w.now) node visits activations }
 {
     let n = node as usize;
@@ -315,8 +268,14 @@ fn entry_of(
     if w[workflow::layout::MAX_ACTIVATIONS] <= activations {
         return failing(false, code::ACTIVATIONS_EXCEEDED, node, 0, 0);
     }
-    let visit = one_more(visits, w[workflow::layout::MAX_VISITS_PER_NODE]);
-    arriving(w, node, visit, last, from, mappings)
+    let entering = Entering {
+        node,
+        visit: one_more(visits, w[workflow::layout::MAX_VISITS_PER_NODE]),
+        last_accepted_at,
+        from,
+        mappings,
+    };
+    entering.arriving(w)
 }
 
 // The entry of what comes next; where that is no node to enter, the run stays.
@@ -324,15 +283,23 @@ fn entry_by(
     w: &[u32; NUMBERS],
     visits: u32,
     activations: u32,
-    last: u64,
+    last_accepted_at: u64,
     next: Next,
     mappings: Mappings,
 ) -> Entry
-    ensures result_value { (s : State) → Uncounted s (destination next) visits activations last → made (counted s (destination next) result) result ≡ entering (workflow w.now) s next mappings }
+    ensures result_value { (s : State) → Uncounted s (destination next) visits activations last_accepted_at → made (counted s (destination next) result) result ≡ entering (workflow w.now) s next mappings }
     ensures room { result.entered ≡ true → Room (workflow w.now) (destination next) visits activations }
 {
     if let Next::Enter { node, from } = next {
-        return entry_of(w, visits, activations, last, node, from, mappings);
+        return entry_of(
+            w,
+            visits,
+            activations,
+            last_accepted_at,
+            node,
+            from,
+            mappings,
+        );
     }
     staying(false, next)
 }
@@ -341,13 +308,32 @@ fn entry_by(
 fn destination(next: Next) -> u32
     ensures { result ≡ destination next }
 {
-    if let Next::Enter { node, from: _ } = next {
-        return node;
+    match next {
+        Next::Enter { node, .. } => node,
+        _ => sheet::NONE,
     }
-    sheet::NONE
 }
 
 impl State {
+    // The run stands where an entry leaves it.
+    fn settle(&mut self, standing: Standing)
+        ensures { self.new ≡ settled self.old standing }
+    {
+        match standing {
+            Standing::Unmoved => {}
+            Standing::Placed {
+                status,
+                position,
+                invocation,
+            } => {
+                self.status = status;
+                self.position = position;
+                self.invocation = invocation;
+            }
+            Standing::Finished { status, output } => self.finish(status, RunResult { output }),
+        }
+    }
+
     // The run fails.
     pub fn terminate(mut self, w: &[u32; NUMBERS], error: ErrorInfo) -> Move
         ensures { result ≡ terminate (workflow w.now) self error }
@@ -365,10 +351,7 @@ impl State {
     {
         let node = destination(next);
         let n = node as usize;
-        let mut count: u32 = 0;
-        if n < NODES {
-            count = self.visits[n].count;
-        }
+        let count = self.visits_of(node).count;
         let e = entry_by(
             w,
             count,
@@ -383,26 +366,13 @@ impl State {
             self.visits[n] = Visits { count: visit };
             self.activations = activations;
         }
-        if e.placed {
-            let position = e.position;
-            let invocation = e.invocation;
-            self.status = e.status;
-            self.position = position;
-            self.invocation = invocation;
-        }
-        if e.ended {
-            let output = e.output;
-            let result = RunResult { output: output };
-            self.result = result;
-        }
-        let then = e.next;
-        let order = e.order;
+        self.settle(e.standing);
         Move {
             state: self,
-            next: then,
-            note: no_note(),
-            ending: no_ending(),
-            order: order,
+            next: e.next,
+            note: None,
+            ending: None,
+            order: e.order,
             read: e.read,
         }
     }

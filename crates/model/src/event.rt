@@ -44,10 +44,9 @@ pub struct Mappings {
     pub count: u32,
 }
 
-// A mapping value as a node finds it.
+// Why a mapping has no value.
 #[derive(Clone, Copy)]
-pub enum Evaluated {
-    Value(u32),
+pub enum NoValue {
     Fault { code: u32, detail: u32 },
     Unencodable,
     Lacking,

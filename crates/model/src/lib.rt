@@ -12,8 +12,9 @@ pub mod store;
 mod time;
 
 ghost use Rattle.std.specs.Prelude.{◌≡◌};
-ghost use Rattle.model.specs.Record.{no_position, no_invocation, no_signal, fresh, finished, is_terminal};
+ghost use Rattle.model.specs.Record.{no_position, no_invocation, no_signal, no_streak, visits_of, streak_of, fresh, finished, is_terminal};
 ghost use Rattle.model.specs.Answers.{output_numbers, kept_numbers};
+ghost use Rattle.model.specs.Store.{signal_zero};
 ghost use Rattle.model.specs.Step.{position};
 
 use workflow::code as sheet;
@@ -27,6 +28,7 @@ pub struct ErrorInfo {
 }
 
 // What a node or a run yielded: a handle or an error, or nothing so far.
+// Kept: document 01 has these three cases; an `Option<Result<..>>` says the same in more words, and makes each of the 64 results larger.
 #[derive(Clone, Copy)]
 pub enum Output {
     Nothing,
@@ -39,7 +41,7 @@ pub struct RunResult {
     pub output: Output,
 }
 
-#[derive(Clone, Copy)]
+#[derive(Clone, Copy, Debug, PartialEq, Eq)]
 pub struct BufferedSignal {
     pub sequence: u64,
     pub event_id: u32,
@@ -76,13 +78,6 @@ pub struct Position {
     pub visit: u32,
 }
 
-// The error that a stuck invocation keeps.
-#[derive(Clone, Copy)]
-pub enum Kept {
-    Nothing,
-    Error(ErrorInfo),
-}
-
 // The outstanding invocation; phase 0, node 255 and zeros for none.
 #[derive(Clone, Copy)]
 pub struct InvocationState {
@@ -93,7 +88,8 @@ pub struct InvocationState {
     pub attempt: u32,
     // the input's handle, which is its digest
     pub input: u32,
-    pub error: Kept,
+    // the error that a stuck invocation keeps
+    pub error: Option<ErrorInfo>,
 }
 
 // The run record. Signals are stored oldest first; visits, streaks and results are by node.
@@ -120,20 +116,19 @@ impl Output {
     {
         match self {
             Output::Nothing => [0; 4],
-            Output::Handle(x) => [1, x as u64, 0, 0],
-            Output::Error(e) => [2, e.code as u64, e.node as u64, e.detail as u64],
+            Output::Handle(x) => [1, u64::from(x), 0, 0],
+            Output::Error(e) => [2, u64::from(e.code), u64::from(e.node), u64::from(e.detail)],
         }
     }
 }
 
-impl Kept {
-    pub fn numbers(self) -> [u64; 4]
-        ensures { result ≡ kept_numbers self }
-    {
-        match self {
-            Kept::Nothing => [0; 4],
-            Kept::Error(e) => [1, e.code as u64, e.node as u64, e.detail as u64],
-        }
+// The numbers of the error that an invocation keeps, if it keeps one.
+pub fn kept_numbers(error: Option<ErrorInfo>) -> [u64; 4]
+    ensures { result ≡ kept_numbers error }
+{
+    match error {
+        None => [0; 4],
+        Some(e) => [1, u64::from(e.code), u64::from(e.node), u64::from(e.detail)],
     }
 }
 
@@ -166,12 +161,30 @@ impl InvocationState {
             action: 0,
             attempt: 0,
             input: 0,
-            error: Kept::Nothing,
+            error: None,
+        }
+    }
+}
+
+impl Streak {
+    fn none() -> Streak
+        ensures { result ≡ no_streak }
+    {
+        Streak {
+            outcome: 0,
+            count: 0,
         }
     }
 }
 
 impl BufferedSignal {
+    // An unused slot of the store is all zero.
+    pub(crate) fn is_none(&self) -> bool
+        ensures { result ≡ signal_zero self.now }
+    {
+        *self == BufferedSignal::none()
+    }
+
     pub fn none() -> BufferedSignal
         ensures { result ≡ no_signal }
     {
@@ -196,10 +209,7 @@ impl State {
         State {
             signals: [BufferedSignal::none(); code::STORE],
             visits: [Visits { count: 0 }; NODES],
-            streaks: [Streak {
-                outcome: 0,
-                count: 0,
-            }; NODES],
+            streaks: [Streak::none(); NODES],
             results: [NodeResult {
                 visit: 0,
                 outcome: 0,
@@ -209,7 +219,7 @@ impl State {
             last_accepted_at: 0,
             signal_count: 0,
             status: code::RUNNING,
-            input: input,
+            input,
             activations: 0,
             position: Position::none(),
             invocation: InvocationState::none(),
@@ -219,14 +229,36 @@ impl State {
         }
     }
 
+    // The visits of a node: none where it has no slot.
+    pub(crate) fn visits_of(&self, node: u32) -> Visits
+        ensures { result ≡ visits_of self.now node }
+    {
+        let slot = self.visits.get(node as usize);
+        slot.copied().unwrap_or(Visits { count: 0 })
+    }
+
+    // The streak of a node: none where it has no slot.
+    pub(crate) fn streak_of(&self, node: u32) -> Streak
+        ensures { result ≡ streak_of self.now node }
+    {
+        let slot = self.streaks.get(node as usize);
+        slot.copied().unwrap_or(Streak::none())
+    }
+
     // The run ends.
-    pub fn finished(mut self, status: u32, res: RunResult) -> State
-        ensures { result ≡ finished self status res }
+    pub(crate) fn finish(&mut self, status: u32, res: RunResult)
+        ensures { self.new ≡ finished self.old status res }
     {
         self.status = status;
         self.position = Position::none();
         self.invocation = InvocationState::none();
         self.result = res;
+    }
+
+    pub fn finished(mut self, status: u32, res: RunResult) -> State
+        ensures { result ≡ finished self status res }
+    {
+        self.finish(status, res);
         self
     }
 }
@@ -235,8 +267,5 @@ impl State {
 pub fn is_terminal(status: u32) -> bool
     ensures { result ≡ is_terminal status }
 {
-    if status == code::RUN_COMPLETED {
-        return true;
-    }
-    status == code::RUN_FAILED
+    status == code::RUN_COMPLETED || status == code::RUN_FAILED
 }

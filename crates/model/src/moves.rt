@@ -23,18 +23,18 @@ pub enum Next {
     Refuse(Refusal),
 }
 
-// The next record and what comes after, with at most one note (code 0: none), one ending (ending 0: none) and one order,
-// and how many mapping answers were read.
+// The next record and what comes after, with at most one note, one ending and one order, and how many mapping answers were read.
 #[derive(Clone, Copy)]
 pub struct Move {
     pub state: State,
     pub next: Next,
-    pub note: Note,
-    pub ending: Ending,
-    pub order: Order,
+    pub note: Option<Note>,
+    pub ending: Option<Ending>,
+    pub order: Option<Order>,
     pub read: u32,
 }
 
+// What fills up a list of notes.
 pub fn no_note() -> Note
     ensures { result ≡ no_note }
 {
@@ -47,6 +47,7 @@ pub fn no_note() -> Note
     }
 }
 
+// What fills up a list of endings.
 pub fn no_ending() -> Ending
     ensures { result ≡ no_ending }
 {
@@ -61,11 +62,11 @@ pub fn still(state: State, next: Next) -> Move
     ensures { result ≡ still state next }
 {
     Move {
-        state: state,
-        next: next,
-        note: no_note(),
-        ending: no_ending(),
-        order: Order::Nothing,
+        state,
+        next,
+        note: None,
+        ending: None,
+        order: None,
         read: 0,
     }
 }

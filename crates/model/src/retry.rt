@@ -3,12 +3,12 @@ ghost use Rattle.std.specs.Prelude.{◌≡◌, ltb};
 ghost use Rattle.workflow.specs.View.{workflow};
 ghost use Rattle.model.specs.Code.{largest};
 ghost use Rattle.model.specs.Step.{planned, retry};
-ghost use Rattle.model.specs.RouteLaws.{no_attempt, Tries};
+ghost use Rattle.model.specs.RouteLaws.{Tries};
 
 use crate::answer::{Note, Order, RetryActivity};
-use crate::moves::{Move, Next, no_ending, no_note};
+use crate::moves::{Move, Next, still};
 use crate::time::planned;
-use crate::{InvocationState, Kept, Position, State, code};
+use crate::{InvocationState, Position, State, code};
 use workflow::layout::NUMBERS;
 use workflow::refusal::Refusal;
 
@@ -16,68 +16,42 @@ use workflow::refusal::Refusal;
 fn is_late(w: &[u32; NUMBERS], last_accepted_at: u64, delay: u64) -> bool
     ensures { result ≡ ltb largest (planned (workflow w.now) last_accepted_at delay) }
 {
-    if code::LARGEST < last_accepted_at {
-        return true;
-    }
-    code::LARGEST - last_accepted_at < delay
+    code::LARGEST < last_accepted_at || code::LARGEST - last_accepted_at < delay
 }
 
-// What the next attempt makes of a run, if one can be ordered.
+// What the next attempt makes of a run.
 #[derive(Clone, Copy)]
 struct Attempt {
-    ordered: bool,
     invocation: InvocationState,
-    next: Next,
     note: Note,
     order: Order,
 }
 
-fn no_attempt() -> Attempt
-    ensures { result ≡ no_attempt }
-{
-    Attempt {
-        ordered: false,
-        invocation: InvocationState::none(),
-        next: Next::Refuse(Refusal::NoRetry),
-        note: no_note(),
-        order: Order::Nothing,
-    }
-}
-
-// The next attempt of an invocation.
+// The next attempt of an invocation, if one can be ordered.
 fn attempt_after(
     w: &[u32; NUMBERS],
     position: Position,
     old: InvocationState,
     last_accepted_at: u64,
     delay: u64,
-) -> Attempt
+) -> Option<Attempt>
     ensures { Tries position old last_accepted_at result (λ s. retry (workflow w.now) s delay) }
 {
-    let attempt = old.attempt;
     if is_late(w, last_accepted_at, delay) {
-        return no_attempt();
+        return None;
     }
-    if code::LARGEST_ATTEMPT <= attempt {
-        return no_attempt();
-    }
-    let invocation = InvocationState {
-        phase: code::SCHEDULED,
-        node: old.node,
-        visit: old.visit,
-        action: old.action,
-        attempt: attempt + 1,
-        input: old.input,
-        error: Kept::Nothing,
-    };
-    Attempt {
-        ordered: true,
-        invocation: invocation,
-        next: Next::Rest,
+    let attempt = old.attempt.checked_add(1)?;
+    Some(Attempt {
+        invocation: InvocationState {
+            phase: code::SCHEDULED,
+            attempt,
+            error: None,
+            ..old
+        },
         note: Note {
             code: code::NOTE_RETRY,
             node: position.node,
-            a: attempt + 1,
+            a: attempt,
             b: 0,
             c: 0,
         },
@@ -85,9 +59,9 @@ fn attempt_after(
             not_before: planned(w, last_accepted_at, delay),
             node: old.node,
             visit: old.visit,
-            attempt: attempt + 1,
+            attempt,
         }),
-    }
+    })
 }
 
 impl State {
@@ -95,23 +69,23 @@ impl State {
     pub fn retry(mut self, w: &[u32; NUMBERS], delay: u64) -> Move
         ensures { result ≡ retry (workflow w.now) self delay }
     {
-        let position = self.position;
-        let old = self.invocation;
-        let a = attempt_after(w, position, old, self.last_accepted_at, delay);
-        if a.ordered {
-            let invocation = a.invocation;
-            self.status = code::RUNNING;
-            self.invocation = invocation;
-        }
-        let next = a.next;
-        let note = a.note;
-        let order = a.order;
+        let Some(next) = attempt_after(
+            w,
+            self.position,
+            self.invocation,
+            self.last_accepted_at,
+            delay,
+        ) else {
+            return still(self, Next::Refuse(Refusal::NoRetry));
+        };
+        self.status = code::RUNNING;
+        self.invocation = next.invocation;
         Move {
             state: self,
-            next: next,
-            note: note,
-            ending: no_ending(),
-            order: order,
+            next: Next::Rest,
+            note: Some(next.note),
+            ending: None,
+            order: Some(next.order),
             read: 0,
         }
     }

@@ -1,28 +1,26 @@
 // The moves that route a node's outcome and take a signal.
-ghost use Rattle.std.specs.Prelude.{◌≡◌, eqb};
+ghost use Rattle.std.specs.Prelude.{◌≡◌, ℕ, ◌<◌, Some, eqb};
 ghost use Rattle.laws.specs.Bool.{◌and◌};
 ghost use Rattle.workflow.specs.View.{workflow};
 ghost use Rattle.workflow.specs.Code.{exhausted};
 ghost use Rattle.workflow.specs.Lookup.{is_0_2};
+ghost use Rattle.model.specs.declared.route.Stored.{Stored};
 ghost use Rattle.model.specs.Step.{streak_count, signal_outcome, signal_route, route, take};
-ghost use Rattle.model.specs.RouteLaws.{routing_of, next_of, unstored, Makes, ends, is_take, is_consume, taken_by, looked_at, taking};
+ghost use Rattle.model.specs.RouteLaws.{routing_of, next_of, stored_by, unstored, Makes, ends, taken_by, taking};
 
-use crate::answer::{Ending, Note, Order};
-use crate::moves::{Move, Next, no_ending, no_note};
+use crate::answer::{Ending, Note};
+use crate::moves::{Move, Next};
 use crate::{BufferedSignal, NodeResult, Output, Position, State, Streak, code};
 use workflow::code as sheet;
 use workflow::layout::{NODES, NUMBERS};
 use workflow::refusal::Refusal;
-
-// The last place of the store.
-const LAST: usize = code::STORE - 1;
 
 // Which outcome a node follows, with its next streak and the note that goes with it.
 #[derive(Clone, Copy)]
 struct Routing {
     streak: Streak,
     outcome: u32,
-    note: Note,
+    note: Option<Note>,
 }
 
 // How often in a row the outcome was routed: a streak of another outcome counts 0.
@@ -41,38 +39,32 @@ fn routing_of(limit: Option<u32>, streak: Streak, node: u32, outcome: u32) -> Ro
 {
     let Some(most) = limit else {
         return Routing {
-            streak: Streak {
-                outcome: 0,
-                count: 0,
-            },
-            outcome: outcome,
-            note: no_note(),
+            streak: Streak::none(),
+            outcome,
+            note: None,
         };
     };
     let count = streak_count(streak, outcome);
     if most <= count {
         return Routing {
-            streak: Streak {
-                outcome: 0,
-                count: 0,
-            },
+            streak: Streak::none(),
             outcome: sheet::EXHAUSTED,
-            note: Note {
+            note: Some(Note {
                 code: code::NOTE_EXHAUSTED,
-                node: node,
+                node,
                 a: outcome,
                 b: most,
                 c: 0,
-            },
+            }),
         };
     }
     Routing {
         streak: Streak {
-            outcome: outcome,
+            outcome,
             count: count + 1,
         },
-        outcome: outcome,
-        note: no_note(),
+        outcome,
+        note: None,
     }
 }
 
@@ -103,10 +95,7 @@ fn signal_outcome(outcome: u32) -> u32
 fn is_reserved(w: &[u32; NUMBERS], outcome: u32) -> bool
     ensures { result ≡ (is_0_2 (workflow w.now) and eqb outcome exhausted) }
 {
-    if workflow::is_0_2(w) {
-        return outcome == sheet::EXHAUSTED;
-    }
-    false
+    workflow::is_0_2(w) && outcome == sheet::EXHAUSTED
 }
 
 // The route of a signal's outcome: none for exhausted in format 2.
@@ -119,35 +108,31 @@ fn signal_route(w: &[u32; NUMBERS], node: u32, outcome: u32) -> Option<u32>
     workflow::find_route(w, node, outcome)
 }
 
-// What routing makes of a run: the result and the streak that are stored at its node, if they are, and what is said.
+// What is stored at the node that routes.
 #[derive(Clone, Copy)]
-struct Routed {
-    stored: bool,
+struct Stored {
     result: NodeResult,
     streak: Streak,
+}
+
+// What routing makes of a run: what is stored, if something is, and what is said.
+#[derive(Clone, Copy)]
+struct Routed {
+    stored: Option<Stored>,
     next: Next,
-    note: Note,
-    ending: Ending,
+    note: Option<Note>,
+    ending: Option<Ending>,
 }
 
 // Nothing is stored.
-fn unstored(next: Next, note: Note, ending: Ending) -> Routed
+fn unstored(next: Next, note: Option<Note>, ending: Option<Ending>) -> Routed
     ensures { result ≡ unstored next note ending }
 {
     Routed {
-        stored: false,
-        result: NodeResult {
-            visit: 0,
-            outcome: 0,
-            output: Output::Nothing,
-        },
-        streak: Streak {
-            outcome: 0,
-            count: 0,
-        },
-        next: next,
-        note: note,
-        ending: ending,
+        stored: None,
+        next,
+        note,
+        ending,
     }
 }
 
@@ -158,30 +143,29 @@ fn routed_from(
     streak: Streak,
     outcome: u32,
     output: Output,
-    ending: Ending,
+    ending: Option<Ending>,
 ) -> Routed
     ensures { Makes position streak result (λ s. ends ending (route (workflow w.now) s outcome output)) }
 {
     let node = position.node;
     let n = node as usize;
     if workflow::capped(w[workflow::layout::NODE_COUNT], NODES) <= n {
-        return unstored(Next::Refuse(Refusal::Invariant), no_note(), ending);
+        return unstored(Next::Refuse(Refusal::Invariant), None, ending);
     }
     let limit = workflow::find_limit(w, node, outcome);
     let routing = routing_of(limit, streak, node, outcome);
-    let kept = routing.streak;
-    let note = routing.note;
     Routed {
-        stored: true,
-        result: NodeResult {
-            visit: position.visit,
-            outcome: outcome,
-            output: output,
-        },
-        streak: kept,
+        stored: Some(Stored {
+            result: NodeResult {
+                visit: position.visit,
+                outcome,
+                output,
+            },
+            streak: routing.streak,
+        }),
         next: next_of(workflow::find_route(w, node, routing.outcome), node),
-        note: note,
-        ending: ending,
+        note: routing.note,
+        ending,
     }
 }
 
@@ -208,7 +192,7 @@ fn taken(
             sequence: signal.sequence,
             ending: code::END_UNROUTED,
         };
-        return unstored(missed, note, ending);
+        return unstored(missed, Some(note), Some(ending));
     };
     let ending = Ending {
         sequence: signal.sequence,
@@ -220,165 +204,80 @@ fn taken(
         streak,
         outcome,
         Output::Handle(signal.data),
-        ending,
+        Some(ending),
     )
-}
-
-// The signal that arrived is to be taken.
-fn is_take(next: Next) -> bool
-    ensures { result ≡ is_take next }
-{
-    match next {
-        Next::Rest => false,
-        Next::Enter { node: _, from: _ } => false,
-        Next::Take => true,
-        Next::Consume => false,
-        Next::Wants {
-            node: _,
-            field: _,
-            from: _,
-        } => false,
-        Next::Refuse(_) => false,
-    }
-}
-
-// The store is to be consumed.
-fn is_consume(next: Next) -> bool
-    ensures { result ≡ is_consume next }
-{
-    match next {
-        Next::Rest => false,
-        Next::Enter { node: _, from: _ } => false,
-        Next::Take => false,
-        Next::Consume => true,
-        Next::Wants {
-            node: _,
-            field: _,
-            from: _,
-        } => false,
-        Next::Refuse(_) => false,
-    }
 }
 
 // The signal that arrived is taken, or the one that was found in the store; else nothing is.
 fn taken_by(
     w: &[u32; NUMBERS],
     next: Next,
-    found: bool,
+    arrived: BufferedSignal,
+    found: Option<BufferedSignal>,
     position: Position,
     streak: Streak,
-    signal: BufferedSignal,
 ) -> Routed
-    ensures { Makes position streak result (λ s. taken_by (workflow w.now) next found s signal) }
+    ensures { Makes position streak result (λ s. taken_by (workflow w.now) next arrived found s) }
 {
-    if is_take(next) {
-        return taken(w, position, streak, signal, Next::Rest);
+    match next {
+        Next::Take => taken(w, position, streak, arrived, Next::Rest),
+        Next::Consume => match found {
+            Some(signal) => taken(w, position, streak, signal, Next::Consume),
+            None => unstored(Next::Rest, None, None),
+        },
+        _ => unstored(next, None, None),
     }
-    if is_consume(next) {
-        if found {
-            return taken(w, position, streak, signal, Next::Consume);
-        }
-        return unstored(Next::Rest, no_note(), no_ending());
-    }
-    unstored(next, no_note(), no_ending())
-}
-
-// How many stored signals are looked at: all, where the store is consumed.
-fn looked_at(next: Next, count: u32) -> usize
-    ensures { result ≡ looked_at next count }
-{
-    if is_consume(next) {
-        return workflow::capped(count, code::STORE);
-    }
-    0
 }
 
 impl State {
+    // What routing stores at its node, if something.
+    fn store(&mut self, node: u32, stored: Option<Stored>)
+        requires { (kept : Stored) → stored ≡ Some kept → node < 64 }
+        ensures { self.new ≡ stored_by self.old node stored }
+    {
+        if let Some(kept) = stored {
+            let n = node as usize;
+            self.results[n] = kept.result;
+            self.streaks[n] = kept.streak;
+        }
+    }
+
     // Routing stores the result with the reported outcome, then the streak, and follows the route.
     pub fn route(mut self, w: &[u32; NUMBERS], outcome: u32, output: Output) -> Move
         ensures { result ≡ route (workflow w.now) self outcome output }
     {
         let position = self.position;
-        let n = position.node as usize;
-        let mut streak = Streak {
-            outcome: 0,
-            count: 0,
-        };
-        if n < NODES {
-            streak = self.streaks[n];
-        }
-        let r = routed_from(w, position, streak, outcome, output, no_ending());
-        if r.stored {
-            let result = r.result;
-            let kept = r.streak;
-            self.results[n] = result;
-            self.streaks[n] = kept;
-        }
-        let next = r.next;
-        let note = r.note;
-        let ending = r.ending;
+        let streak = self.streak_of(position.node);
+        let r = routed_from(w, position, streak, outcome, output, None);
+        self.store(position.node, r.stored);
         Move {
             state: self,
-            next: next,
-            note: note,
-            ending: ending,
-            order: Order::Nothing,
+            next: r.next,
+            note: r.note,
+            ending: r.ending,
+            order: None,
             read: 0,
         }
     }
 
-    // A signal is taken where one is to be: the one that arrived, or the oldest stored one of the name that the node waits for, which goes from the
-    // store as the later ones move down.
+    // A signal is taken where one is to be: the one that arrived, or the oldest stored one of the name that the node waits for.
     pub fn take(mut self, w: &[u32; NUMBERS], next: Next, arrived: BufferedSignal) -> Move
         ensures { result ≡ taking (workflow w.now) self next arrived }
     {
         let position = self.position;
-        let row = workflow::node_of(w, position.node);
-        let rows = looked_at(next, self.signal_count);
-        let mut place: usize = 0;
-        while place < rows {
-            let x = self.signals[place];
-            if x.signal == row.signal {
-                break;
-            }
-            place += 1;
+        let mut found = None;
+        if let Next::Consume = next {
+            found = self.remove_first(workflow::node_of(w, position.node).signal);
         }
-        let mut signal = arrived;
-        if place < rows {
-            signal = self.signals[place];
-            let mut k = place;
-            while k < LAST {
-                let x = self.signals[k + 1];
-                self.signals[k] = x;
-                k += 1;
-            }
-            self.signals[LAST] = BufferedSignal::none();
-            self.signal_count = self.signal_count - 1;
-        }
-        let n = position.node as usize;
-        let mut streak = Streak {
-            outcome: 0,
-            count: 0,
-        };
-        if n < NODES {
-            streak = self.streaks[n];
-        }
-        let r = taken_by(w, next, place < rows, position, streak, signal);
-        if r.stored {
-            let result = r.result;
-            let kept = r.streak;
-            self.results[n] = result;
-            self.streaks[n] = kept;
-        }
-        let to = r.next;
-        let note = r.note;
-        let ending = r.ending;
+        let streak = self.streak_of(position.node);
+        let r = taken_by(w, next, arrived, found, position, streak);
+        self.store(position.node, r.stored);
         Move {
             state: self,
-            next: to,
-            note: note,
-            ending: ending,
-            order: Order::Nothing,
+            next: r.next,
+            note: r.note,
+            ending: r.ending,
+            order: None,
             read: 0,
         }
     }

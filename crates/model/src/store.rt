@@ -1,14 +1,18 @@
-// The stored signals: the first `signal_count` of the array, oldest first. Only this file and `take` know where they sit.
-ghost use Rattle.std.specs.Prelude.{◌≡◌, min};
+// The stored signals: the first `signal_count` of the array, oldest first. Only this file knows where they sit.
+ghost use Rattle.std.specs.List.{list_all, position};
+ghost use Rattle.std.specs.Prelude.{◌≡◌, eqb};
 ghost use Rattle.laws.specs.Listing.{padded};
 ghost use Rattle.model.specs.Code.{store};
 ghost use Rattle.model.specs.Step.{no_ending};
-ghost use Rattle.model.specs.StoreLaws.{signal_fits};
-ghost use Rattle.model.specs.Store.{stored, appended, leaves_over, left_over, emptied, store_fits};
+ghost use Rattle.model.specs.Store.{stored, first_signal, appended, leaves_over, left_over, emptied, in_sequence, signal_zero, store_fits};
+ghost use Rattle.model.specs.StoreLaws.{found_at, left_at};
 
 use crate::answer::Ending;
 use crate::moves::no_ending;
 use crate::{BufferedSignal, State, code, is_terminal};
+
+// The last place of the store.
+const LAST: usize = code::STORE - 1;
 
 impl State {
     // The signal is stored behind the others; a full store stays as it is.
@@ -20,24 +24,35 @@ impl State {
             return self;
         }
         self.signals[n] = signal;
-        self.signal_count = self.signal_count + 1;
+        self.signal_count += 1;
         self
+    }
+
+    // The oldest stored signal of a name goes from the store, as the later ones move down.
+    pub(crate) fn remove_first(&mut self, name: u32) -> Option<BufferedSignal>
+        ensures result_value { result ≡ found_at self.old (first_signal self.old name) }
+        ensures after { self.new ≡ left_at self.old (first_signal self.old name) }
+    {
+        let rows = workflow::capped(self.signal_count, code::STORE);
+        let place = place_of(&self.signals[..rows], name)?;
+        let signal = self.signals[place];
+        self.signals.copy_within(place + 1.., place);
+        self.signals[LAST] = BufferedSignal::none();
+        self.signal_count -= 1;
+        Some(signal)
     }
 
     // The stored signals as left over, oldest first.
     pub fn left_over(self) -> [Ending; code::STORE]
         ensures { result ≡ padded store no_ending (left_over (stored self)) }
     {
-        let mut endings: [Ending; code::STORE] = [no_ending(); code::STORE];
-        let rows = within(self.signal_count);
-        let mut i: usize = 0;
-        while i < rows {
-            let x = self.signals[i];
+        let mut endings = [no_ending(); code::STORE];
+        let rows = workflow::capped(self.signal_count, code::STORE);
+        for i in 0..rows {
             endings[i] = Ending {
-                sequence: x.sequence,
+                sequence: self.signals[i].sequence,
                 ending: code::END_LEFT_OVER,
             };
-            i += 1;
         }
         endings
     }
@@ -51,48 +66,42 @@ impl State {
         self
     }
 
-    // The store's part of the run check.
+    // The store's part of the run check: a stored signal has a sequence number in range, and an unused slot is all zero.
     pub fn store_fits(self) -> bool
         ensures { result ≡ store_fits self }
     {
         if State::STORE < self.signal_count {
             return false;
         }
-        let mut i: usize = 0;
-        while i < code::STORE {
-            let x = self.signals[i];
-            if !signal_fits(self.signal_count, i as u32, x) {
-                return false;
-            }
-            i += 1;
-        }
-        true
+        let n = self.signal_count as usize;
+        are_in_sequence(&self.signals[..n]) && are_zero(&self.signals[n..])
     }
+}
+
+// The place of the first signal of a name.
+fn place_of(signals: &[BufferedSignal], name: u32) -> Option<usize>
+    ensures { result ≡ position (λ x. eqb x.signal name) signals.now }
+{
+    signals.iter().position(|x| x.signal == name)
+}
+
+// Each has a sequence number in range.
+fn are_in_sequence(signals: &[BufferedSignal]) -> bool
+    ensures { result ≡ list_all in_sequence signals.now }
+{
+    signals.iter().all(|x| x.sequence <= code::LARGEST)
+}
+
+// Each is all zero.
+fn are_zero(signals: &[BufferedSignal]) -> bool
+    ensures { result ≡ list_all signal_zero signals.now }
+{
+    signals.iter().all(|x| x.is_none())
 }
 
 // The run has ended and signals are still stored.
 pub fn leaves_over(status: u32, stored: u32) -> bool
     ensures { result ≡ leaves_over status stored }
 {
-    is_terminal(status) & (0 < stored)
-}
-
-// The count, or all slots where it is above them.
-fn within(count: u32) -> usize
-    ensures { result ≡ min store count }
-{
-    if State::STORE < count {
-        return code::STORE;
-    }
-    count as usize
-}
-
-// A stored signal, or an unused slot of the store, which is all zero.
-fn signal_fits(count: u32, place: u32, x: BufferedSignal) -> bool
-    ensures { result ≡ signal_fits count place x }
-{
-    if place < count {
-        return x.sequence <= code::LARGEST;
-    }
-    (x.sequence == 0) & (x.event_id == 0) & (x.signal == 0) & (x.outcome == 0) & (x.data == 0)
+    is_terminal(status) && 0 < stored
 }

@@ -1,6 +1,6 @@
 -- Every record that a call hands back fits: each of its numbers is one that its field can hold.
 use Rattle.graph.specs.Verdict.{Verdict}
-use Rattle.std.specs.Prelude.{◌≡◌, Bool, List, length, get_or, set, Option, Some, None, Ok, Err}
+use Rattle.std.specs.Prelude.{◌≡◌, Bool, List, length, get_or, set, Option, Some, None, Result, Ok, Err}
 use Rattle.std.proofs.Math.Path.{refl}
 use Rattle.std.proofs.Common.{◌∙◌, length-set}
 use Prim.Native.Nat.{ℕ, zero, suc, ◌+◌, ◌-◌, ◌^◌, ◌<◌, min}
@@ -16,7 +16,6 @@ use Rattle.workflow.specs.Lookup.{node_slots, node_of, limit_of}
 use Rattle.model.specs.Code.{running, run_failed, run_completed, needs_intervention, scheduled, unknown, stuck}
 use Rattle.model.specs.declared.ErrorInfo.{ErrorInfo}
 use Rattle.model.specs.declared.Output.{Output}
-use Rattle.model.specs.declared.Kept.{Kept}
 use Rattle.model.specs.declared.BufferedSignal.{BufferedSignal}
 use Rattle.model.specs.declared.Visits.{Visits}
 use Rattle.model.specs.declared.Streak.{Streak}
@@ -26,14 +25,14 @@ use Rattle.model.specs.declared.InvocationState.{InvocationState}
 use Rattle.model.specs.declared.State.{State}
 use Rattle.model.specs.declared.event.Event.{Event}
 use Rattle.model.specs.declared.event.Mappings.{Mappings}
-use Rattle.model.specs.declared.event.Evaluated.{Evaluated}
-use Rattle.model.specs.declared.answer.Params.{Params}
+use Rattle.model.specs.declared.event.NoValue.{NoValue}
+use Rattle.model.specs.declared.event.NoValue.TheVariants.{Fault, Unencodable, Lacking}
 use Rattle.model.specs.declared.moves.Next.{Next}
 use Rattle.model.specs.declared.moves.Next.TheVariants.{Rest, Enter, Take, Consume, Wants, Refuse}
 use Rattle.model.specs.declared.moves.Move.{Move}
 use Rattle.model.specs.Record.{no_signal, no_visits, no_streak, no_node_result, no_position, no_invocation, fresh, visits_of, streak_of, set_signals, set_visits, set_streaks, set_results, seen, placed, finished}
 use Rattle.model.specs.Store.{listed, stored, signal_at, removed, appended, emptied}
-use Rattle.model.specs.Step.{no_mapping, answer, signal_outcome, streak_count, one_more_visit, phased, arrival, error, terminate, evaluate, schedule, enter_activity, enter_await, enter_complete, arrive, enter, follow_to, route_limited, route, take_by, retry}
+use Rattle.model.specs.Step.{no_mapping, answer, signal_outcome, streak_count, one_more_visit, phased, arrival, error, terminate, evaluate, without_value, schedule, enter_activity, enter_await, enter_complete, arrive, enter, follow_to, route_limited, route, take_by, retry}
 use Rattle.machine.specs.Events.{success_outcome, not_applicable, stick, on_ended, complete_invocation, fail_invocation, on_signal, on_success, on_failure, on_unknown, on_result, resolve_as_complete, resolve_as_fail, on_resolved, react}
 use Rattle.kernel.specs.declared.Limits.{Limits}
 use Rattle.kernel.specs.declared.Call.{Call}
@@ -145,7 +144,7 @@ module _ {s : State} (t : Fits s) where
         result = t.result;
       }
 
-  fits_phased : (k p a : ℕ) (e : Kept) → Number k → Number p → Number a → KeptFits e → Fits (placed s k s.position (phased s.invocation p a e))
+  fits_phased : (k p a : ℕ) (e : Option ErrorInfo) → Number k → Number p → Number a → KeptFits e → Fits (placed s k s.position (phased s.invocation p a e))
   fits_phased k p a e hk hp ha he =
       fits_placed k s.position (phased s.invocation p a e) hk t.position
       (record {
@@ -230,11 +229,11 @@ abbrev Good : Move → Type 0
 Good v = Fits v.state
 
 -- The mapping answers that a node finds.
-abbrev EvaluatedFits : Evaluated → Type 0
-EvaluatedFits (Evaluated.Value x) = Number x
-EvaluatedFits (Evaluated.Fault c d) = (Code c) × (Number d)
-EvaluatedFits Evaluated.Unencodable = Unit {0}
-EvaluatedFits Evaluated.Lacking = Unit {0}
+abbrev EvaluatedFits : Result ℕ NoValue → Type 0
+EvaluatedFits (Ok x) = Number x
+EvaluatedFits (Err (Fault c d)) = (Code c) × (Number d)
+EvaluatedFits (Err Unencodable) = Unit {0}
+EvaluatedFits (Err Lacking) = Unit {0}
 
 -- A signal's outcome, and a success's: an absent one has a name.
 signal_named : (o : ℕ) → Name o → Name (signal_outcome o)
@@ -262,14 +261,14 @@ module _ (f : Workflow) (its : Sheet f) where
       name : Name n
       name = omega (arith, inside)
 
-      good_evaluate : (a : Evaluated) (s : State) (i b r : ℕ) (k : ℕ → Move) → EvaluatedFits a → Fits s → ((x : ℕ) → Number x → Good (k x)) → Good (evaluate f a s n i b r k)
-      unfolding evaluate
-      good_evaluate (Evaluated.Value x) s i b r k a t h = h x a
-      good_evaluate (Evaluated.Fault c d) s i b r k a t h = good_terminate s (error c n d) (record { code = a.0; node = name; detail = a.1 }) t
-      good_evaluate Evaluated.Unencodable s i b r k a t h = t
-      good_evaluate Evaluated.Lacking s i b r k a t h = t
+      good_evaluate : (a : Result ℕ NoValue) (s : State) (i b r : ℕ) (k : ℕ → Move) → EvaluatedFits a → Fits s → ((x : ℕ) → Number x → Good (k x)) → Good (evaluate f a s n i b r k)
+      unfolding evaluate without_value
+      good_evaluate (Ok x) s i b r k a t h = h x a
+      good_evaluate (Err (Fault c d)) s i b r k a t h = good_terminate s (error c n d) (record { code = a.0; node = name; detail = a.1 }) t
+      good_evaluate (Err Unencodable) s i b r k a t h = t
+      good_evaluate (Err Lacking) s i b r k a t h = t
 
-      good_schedule : (s : State) (x : ℕ) (p : Params) → (node_of f n).kind ≡ activity → Number x → Fits s → Good (schedule f s n x p)
+      good_schedule : (s : State) (x : ℕ) (p : Option ℕ) → (node_of f n).kind ≡ activity → Number x → Fits s → Good (schedule f s n x p)
       unfolding schedule
       good_schedule s x p k h t =
           fits_placed t running _ _ (omega arith) (record { node = name; visit = visit_fits t n })
@@ -342,7 +341,7 @@ module _ (f : Workflow) (its : Sheet f) where
   unfolding retry
   good_retry s d t =
       either Good _ (λ _. t) (λ _. either Good _ (λ _. t)
-      (λ h. fits_phased t running scheduled _ Kept.Nothing (omega arith) (omega arith) (omega (arith, ltb-false (2 ^ 32 - 1) (s.invocation.attempt + 1) h)) tt))
+      (λ h. fits_phased t running scheduled _ None (omega arith) (omega arith) (omega (arith, ltb-false (2 ^ 32 - 1) (s.invocation.attempt + 1) h)) tt))
 
   good_complete : (s : State) (o : ℕ) (x : Output) → Name o → OutputFits x → Fits s → Good (complete_invocation f s o x)
   unfolding complete_invocation
@@ -353,12 +352,12 @@ module _ (f : Workflow) (its : Sheet f) where
   good_fail s k d p h g t =
       let e : ErrorFits (error k s.position.node d) = record { code = h; node = t.position.node; detail = g } in
       either Good _ (λ _. good_complete s _ _ (omega arith) e t)
-      (λ _. either Good _ (λ _. fits_phased t needs_intervention stuck _ (Kept.Error _) (omega arith) (omega arith) t.invocation.attempt e) (λ _. good_terminate s _ e t))
+      (λ _. either Good _ (λ _. fits_phased t needs_intervention stuck _ (Some _) (omega arith) (omega arith) t.invocation.attempt e) (λ _. good_terminate s _ e t))
 
-  good_resolve_as_fail : (x : Kept) (s : State) (e : Event) → KeptFits x → EventFits e → Fits s → Good (resolve_as_fail f x s e)
+  good_resolve_as_fail : (x : Option ErrorInfo) (s : State) (e : Event) → KeptFits x → EventFits e → Fits s → Good (resolve_as_fail f x s e)
   unfolding resolve_as_fail
-  good_resolve_as_fail (Kept.Error k) s e x h t = good_terminate s k x t
-  good_resolve_as_fail Kept.Nothing s e x h t = good_fail s _ _ _ h.code h.detail t
+  good_resolve_as_fail (Some k) s e x h t = good_terminate s k x t
+  good_resolve_as_fail None s e x h t = good_fail s _ _ _ h.code h.detail t
 
   module _ (e : Event) (h : EventFits e) (s : State) (t : Fits s) where
     arrival_fits : SignalFits (arrival e)
@@ -383,7 +382,7 @@ module _ (f : Workflow) (its : Sheet f) where
     good_unknown : Good (on_unknown f s e)
     unfolding on_unknown
     good_unknown =
-        either Good _ (λ _. fits_phased t needs_intervention unknown _ Kept.Nothing (omega arith) (omega arith) t.invocation.attempt tt)
+        either Good _ (λ _. fits_phased t needs_intervention unknown _ None (omega arith) (omega arith) t.invocation.attempt tt)
         (λ _. either Good _ (λ _. good_retry s _ t) (λ _. good_fail s _ _ _ (omega arith) h.status t))
 
     good_result : Good (on_result f s e)

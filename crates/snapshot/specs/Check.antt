@@ -9,7 +9,7 @@ use Rattle.workflow.specs.declared.Node.{Node}
 use Rattle.workflow.specs.View.{Workflow}
 use Rattle.workflow.specs.Lookup.{is_0_2, node_of, limit_of}
 use Rattle.model.specs.declared.Output.{Output}
-use Rattle.model.specs.declared.Kept.{Kept}
+use Rattle.model.specs.declared.ErrorInfo.{ErrorInfo}
 use Rattle.model.specs.declared.Streak.{Streak}
 use Rattle.model.specs.declared.NodeResult.{NodeResult}
 use Rattle.model.specs.declared.Position.{Position}
@@ -63,9 +63,9 @@ counters_fit state = leb state.last_sequence largest and leb state.last_accepted
 abbrev pub is_no_position : Position → Bool
 is_no_position position = eqb position.node none and eqb position.visit 0
 
-abbrev pub keeps_error : Kept → Bool
-keeps_error Kept.Nothing = false
-keeps_error (Kept.Error error) = true
+abbrev pub keeps_error : Option ErrorInfo → Bool
+keeps_error None = false
+keeps_error (Some error) = true
 
 -- No invocation. (Its `input` is the original's `input_digest`.)
 abbrev pub is_no_invocation : InvocationState → Bool

@@ -1,5 +1,7 @@
 -- The run check by its parts, as the code tests them.
-use Rattle.std.specs.Prelude.{◌≡◌, refl, Bool, true, false, not, ◌&&◌, ◌||◌, List, [], ◌∷◌, ℕ, zero, suc, ◌≤◌, length, get_or, take, ltb, eqb}
+use Rattle.std.specs.Prelude.{◌≡◌, refl, Bool, true, false, not, ◌&&◌, ◌||◌, List, [], ◌∷◌, ℕ, zero, suc, ◌≤◌, length, get_or, take, ltb, eqb, Option, Some, None}
+use Rattle.std.specs.Option.{is_some}
+use mathlib.Core.Bool.{beq}
 use Rattle.std.proofs.Math.Path.{sym}
 use Rattle.std.proofs.Common.{◌∙◌, ap, arith, lt-ltb, le-ltb, take_all}
 use Rattle.std.proofs.Math.Dec.{eqb-zero-suc}
@@ -18,7 +20,7 @@ use Rattle.snapshot.specs.Check.{result_unused, result_fits, result_zero, streak
 use Rattle.model.specs.Store.{leaves_over, store_fits}
 use Rattle.model.specs.Step.{no_mapping}
 use Rattle.snapshot.specs.EventCheck.{in_range}
-use Rattle.model.specs.declared.Kept.{Kept}
+use Rattle.model.specs.declared.ErrorInfo.{ErrorInfo}
 use Rattle.model.specs.declared.Visits.{Visits}
 use Rattle.model.specs.declared.Streak.{Streak}
 use Rattle.model.specs.declared.NodeResult.{NodeResult}
@@ -51,8 +53,26 @@ unfoldable pub terminal_by : (status : ℕ) → Position → InvocationState →
 terminal_by k p i x = is_no_position p and is_no_invocation i and result_of_status k x.output
 
 -- Exactly a stuck invocation keeps an error.
-abbrev pub error_fits : (phase : ℕ) → Kept → Bool
+abbrev pub error_fits : (phase : ℕ) → Option ErrorInfo → Bool
 error_fits p x = when keeps_error x then eqb p stuck else not (eqb p stuck)
+
+-- In code: whether there is an error, and that there is none.
+pub keeps : (x : Option ErrorInfo) → is_some x ≡ keeps_error x
+keeps None = refl
+keeps (Some e) = refl
+
+pub keeps_none : (x : Option ErrorInfo) (b : Bool) → is_some x ≡ not b → b ≡ not (keeps_error x)
+keeps_none None true e = refl
+keeps_none None false e = cc
+keeps_none (Some x) true e = cc
+keeps_none (Some x) false e = refl
+
+pub alike : (a b : Bool) → beq a b ≡ (when a then b else not b)
+unfolding when◌then◌else◌
+alike true true = refl
+alike true false = refl
+alike false true = refl
+alike false false = refl
 
 -- A node that waits or works.
 unfoldable pub invocation_fits : Workflow → Node → (status : ℕ) → Position → InvocationState → Bool

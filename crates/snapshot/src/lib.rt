@@ -3,14 +3,15 @@
 
 ghost use Rattle.std.specs.Prelude.{◌≡◌};
 ghost use Rattle.workflow.specs.View.{workflow};
-ghost use Rattle.snapshot.specs.Check.{result_unused, result_zero, result_fits, streak_fits, slots_fit, counters_fit, keeps_error, is_no_invocation, result_of_status, owned_by, phase_fits, stands, consistent};
+ghost use Rattle.snapshot.specs.Check.{result_unused, result_zero, result_fits, streak_fits, slots_fit, counters_fit, is_no_invocation, result_of_status, owned_by, phase_fits, stands, consistent};
 ghost use Rattle.snapshot.specs.EventCheck.{in_range, event_fits};
 ghost use Rattle.snapshot.specs.CheckLaws.{node_fits, terminal_by, error_fits, invocation_fits, live_by, answers_fit};
 
 use model::event::{Event, Mappings};
 use model::store::leaves_over;
 use model::{
-    InvocationState, Kept, NodeResult, Output, Position, RunResult, State, Streak, Visits, code,
+    ErrorInfo, InvocationState, NodeResult, Output, Position, RunResult, State, Streak, Visits,
+    code,
 };
 use workflow::layout::{NODES, NUMBERS};
 use workflow::{Node, code as sheet};
@@ -20,11 +21,7 @@ use workflow::{Node, code as sheet};
 fn result_unused(x: Output) -> bool
     ensures { result ≡ result_unused x }
 {
-    match x {
-        Output::Nothing => true,
-        Output::Handle(_) => false,
-        Output::Error(_) => false,
-    }
+    matches!(x, Output::Nothing)
 }
 
 fn result_zero(x: NodeResult) -> bool
@@ -67,15 +64,6 @@ fn node_fits(w: &[u32; NUMBERS], node: u32, visits: Visits, res: NodeResult, str
 
 // Where the run stands.
 
-fn keeps_error(x: Kept) -> bool
-    ensures { result ≡ keeps_error x }
-{
-    match x {
-        Kept::Nothing => false,
-        Kept::Error(_) => true,
-    }
-}
-
 fn is_no_invocation(x: InvocationState) -> bool
     ensures { result ≡ is_no_invocation x }
 {
@@ -86,7 +74,7 @@ fn is_no_invocation(x: InvocationState) -> bool
         & (x.action == 0)
         & (x.attempt == 0)
         & (x.input == 0)
-        & !keeps_error(error)
+        & error.is_none()
 }
 
 // A terminal state carries the result of its status.
@@ -116,13 +104,10 @@ fn terminal_fits(
 }
 
 // Exactly a stuck invocation keeps an error.
-fn error_fits(phase: u32, error: Kept) -> bool
+fn error_fits(phase: u32, error: Option<ErrorInfo>) -> bool
     ensures { result ≡ error_fits phase error }
 {
-    if keeps_error(error) {
-        return phase == code::STUCK;
-    }
-    phase != code::STUCK
+    error.is_some() == (phase == code::STUCK)
 }
 
 // The invocation belongs to the activation where the run stands.
@@ -204,15 +189,13 @@ fn stands(w: &[u32; NUMBERS], s: State) -> bool
 fn slots_fit(w: &[u32; NUMBERS], s: State) -> bool
     ensures { result ≡ slots_fit (workflow w.now) s }
 {
-    let mut n: usize = 0;
-    while n < NODES {
+    for n in 0..NODES {
         let visits = s.visits[n];
         let result = s.results[n];
         let streak = s.streaks[n];
         if !node_fits(w, n as u32, visits, result, streak) {
             return false;
         }
-        n += 1;
     }
     true
 }

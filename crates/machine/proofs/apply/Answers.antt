@@ -25,7 +25,7 @@ returns-in-Retry c = simp (← c.max.ensures) (c.retry.ensures ∙ c.in-Retry.en
 
 pub returns-in-Park : goal.returns-in-Park
 unfolding performed
-returns-in-Park c = simp (← c.max.ensures) (simp c.no_ending.ensures c.in-Park.ensures)
+returns-in-Park c = simp (← c.max.ensures) c.in-Park.ensures
 
 pub returns-in-Fail : goal.returns-in-Fail
 unfolding performed

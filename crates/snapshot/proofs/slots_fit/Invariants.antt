@@ -1,4 +1,3 @@
-use Prim.Native.Nat.{◌-◌}
 use Rattle.workflow.specs.View.{workflow}
 use Rattle.snapshot.specs.CheckLaws.{Nodes}
 use Rattle.snapshot.proofs.slots_fit.Given as goal
@@ -6,7 +5,3 @@ use Rattle.snapshot.proofs.slots_fit.Given as goal
 -- What is left of the check is the slots of the nodes from n on.
 abbrev pub invariant-loop-n : goal.invariant-loop-n
 invariant-loop-n l = Nodes (workflow l.w) l.s l.n
-
--- The nodes that are not yet looked at.
-abbrev pub decreases-loop-n : goal.decreases-loop-n
-decreases-loop-n l = 64 - l.n

@@ -1,17 +1,9 @@
-use Rattle.kernel.specs.DriveLaws.{answer_of}
+use Rattle.kernel.specs.DriveLaws.{answer_of, answer_else}
 use Rattle.kernel.proofs.drive.answer_of.Goals as goal
 
 pub returns-in-Rest : goal.returns-in-Rest
 unfolding answer_of
 returns-in-Rest c = simp (c.in-Rest.is, ← c.rest_answer.ensures)
-
-pub returns-in-Enter : goal.returns-in-Enter
-unfolding answer_of
-returns-in-Enter c = simp c.in-Enter.is
-
-pub returns-in-Take : goal.returns-in-Take
-unfolding answer_of
-returns-in-Take c = simp c.in-Take.is
 
 pub returns-in-Consume : goal.returns-in-Consume
 unfolding answer_of
@@ -24,3 +16,6 @@ returns-in-Wants c = simp c.in-Wants.is
 pub returns-in-Refuse : goal.returns-in-Refuse
 unfolding answer_of
 returns-in-Refuse c = simp c.in-Refuse.is
+
+pub returns-in_default : goal.returns-in_default
+returns-in_default c = answer_else c.args.next _ _ _ _ c.in_default.not-Rest c.in_default.not-Consume c.in_default.not-Wants c.in_default.not-Refuse

@@ -1,9 +1,5 @@
-use Rattle.kernel.specs.DriveLaws.{is_over}
+use Rattle.kernel.specs.DriveLaws.{is_over, over_else}
 use Rattle.kernel.proofs.drive.is_over.Goals as goal
-
-pub returns-in-Rest : goal.returns-in-Rest
-unfolding is_over
-returns-in-Rest c = simp c.in-Rest.is
 
 pub returns-in-Enter : goal.returns-in-Enter
 unfolding is_over
@@ -17,10 +13,5 @@ pub returns-in-Consume : goal.returns-in-Consume
 unfolding is_over
 returns-in-Consume c = simp c.in-Consume.is
 
-pub returns-in-Wants : goal.returns-in-Wants
-unfolding is_over
-returns-in-Wants c = simp c.in-Wants.is
-
-pub returns-in-Refuse : goal.returns-in-Refuse
-unfolding is_over
-returns-in-Refuse c = simp c.in-Refuse.is
+pub returns-in_default : goal.returns-in_default
+returns-in_default c = over_else c.args.next _ c.in_default.not-Enter c.in_default.not-Take c.in_default.not-Consume

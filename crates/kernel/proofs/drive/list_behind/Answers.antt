@@ -1,14 +1,19 @@
-use Rattle.std.proofs.Common.{rules}
 use native.Mathlib.Omega.{arith}
+use mathlib.Core.Path.{◌≡◌}
+use Prim.Native.Nat.{◌+◌, ◌-◌}
+use lib.ListN.{length, take}
+use mathlib.Core.List.{append_assoc}
+use Rattle.std.proofs.Math.Seq.{drop-drop}
+use Rattle.std.proofs.Common.{rules, length-take-le}
 use Rattle.laws.specs.Arrays.{length_field}
-use Rattle.kernel.specs.DriveLaws.{behind_none, behind_more, behind_all}
+use Rattle.laws.specs.Splice.{splice}
 use Rattle.kernel.proofs.drive.list_behind.Goals as goal
 
-pub loop-i-init : goal.loop-i-init
-loop-i-init c = behind_none c.args.more c.args.count
-
-pub loop-i-preserved : goal.loop-i-preserved
-loop-i-preserved c = behind_more c.args.more c.args.count c.loop-i.invariant (omega (arith, c.requires.count_bound_2)) (search (rules, length_field)) c.requires.count_bound c.loop-i-test.true
-
 pub returns : goal.returns
-returns c = behind_all c.args.more c.args.count c.loop-i.invariant (omega (arith, c.requires.count_bound_2)) c.loop-i-test.false
+unfolding splice
+returns c =
+    let a = c.args in
+    let long : length a.more ≡ 64 = search (rules, length_field) in
+    let part : length (take a.count a.more) ≡ a.count = length-take-le a.count a.more (omega (arith, c.requires.count_bound_2)) in
+    let size : a.ending_count + a.count - a.ending_count ≡ a.count = omega arith in
+    rw (c.copy_from_slice.ensures.after, size, part) (simp (append_assoc, drop-drop))

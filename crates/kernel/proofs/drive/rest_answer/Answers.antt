@@ -7,10 +7,10 @@ pub returns-then-limits-order_count : goal.returns-then-limits-order_count
 unfolding rest_answer when◌then◌else◌
 returns-then-limits-order_count c = simp (← c.order_count.ensures, lt-ltb _ _ c.if-limits-order_count.true)
 
-pub returns-then-limits-operations : goal.returns-then-limits-operations
+pub returns-then-from-operations : goal.returns-then-from-operations
 unfolding rest_answer when◌then◌else◌
-returns-then-limits-operations c = simp (← c.order_count.ensures, le-ltb _ _ c.if-limits-order_count.false, lt-ltb _ _ c.if-limits-operations.true)
+returns-then-from-operations c = simp (← c.order_count.ensures, le-ltb _ _ c.if-limits-order_count.false, lt-ltb _ _ (rw c.from.ensures at c.if-from-operations.true))
 
 pub returns : goal.returns
 unfolding rest_answer when◌then◌else◌
-returns c = simp (← c.order_count.ensures, le-ltb _ _ c.if-limits-order_count.false, le-ltb _ _ c.if-limits-operations.false)
+returns c = simp (← c.order_count.ensures, le-ltb _ _ c.if-limits-order_count.false, le-ltb _ _ (rw c.from.ensures at c.if-from-operations.false))

@@ -8,19 +8,19 @@ pub loop-i-init : goal.loop-i-init
 loop-i-init c = rw c.no_ending-endings.ensures leaving_none
 
 pub offset_bounds-self-i : goal.offset_bounds-self-i
-offset_bounds-self-i c = omega (arith, c.within-rows.ensures, c.loop-i-test.true)
+offset_bounds-self-i c = omega (arith, c.capped-rows.ensures, c.loop-i-test.true)
 
 pub bounds-self-i : goal.bounds-self-i
-bounds-self-i c = omega (arith, c.within-rows.ensures, c.loop-i-test.true)
+bounds-self-i c = omega (arith, c.capped-rows.ensures, c.loop-i-test.true)
 
 pub offset_bounds-endings-i : goal.offset_bounds-endings-i
-offset_bounds-endings-i c = omega (arith, c.within-rows.ensures, c.loop-i-test.true)
+offset_bounds-endings-i c = omega (arith, c.capped-rows.ensures, c.loop-i-test.true)
 
 pub bounds-endings-i : goal.bounds-endings-i
-bounds-endings-i c = omega (arith, c.within-rows.ensures, c.loop-i-test.true)
+bounds-endings-i c = omega (arith, c.capped-rows.ensures, c.loop-i-test.true)
 
 pub loop-i-preserved : goal.loop-i-preserved
-loop-i-preserved c = leaving_more c.loop-i.invariant (search (rules, length_field)) (omega (arith, c.within-rows.ensures, c.loop-i-test.true))
+loop-i-preserved c = leaving_more c.loop-i.invariant (search (rules, length_field)) (omega (arith, c.capped-rows.ensures, c.loop-i-test.true))
 
 pub returns : goal.returns
-returns c = leaving_all c.loop-i.invariant (search (rules, length_field)) (omega (arith, c.within-rows.ensures, c.loop-i-test.false))
+returns c = leaving_all c.loop-i.invariant (search (rules, length_field)) (omega (arith, c.capped-rows.ensures, c.loop-i-test.false))

@@ -1,4 +1,3 @@
-use Prim.Native.Nat.{◌-◌}
 use Rattle.model.specs.Step.{no_ending}
 use Rattle.model.specs.StoreLaws.{Leaving}
 use Rattle.model.proofs.State.left_over.Given as goal
@@ -6,7 +5,3 @@ use Rattle.model.proofs.State.left_over.Given as goal
 -- The first i stored signals are listed.
 abbrev pub invariant-loop-i : goal.invariant-loop-i
 invariant-loop-i l = Leaving no_ending l.self.signals l.self.signal_count l.endings l.i
-
--- Those that are not yet listed.
-abbrev pub decreases-loop-i : goal.decreases-loop-i
-decreases-loop-i l = l.rows - l.i

@@ -1,23 +1,17 @@
+use mathlib.Core.Path.{◌≡◌, sym, ◌∙◌}
+use lib.ListN.{length}
 use Rattle.std.proofs.Common.{rules}
-use mathlib.Core.Path.{refl, ap}
-use mathlib.Core.Bool.{not}
-use Rattle.laws.specs.First.{seek_hit, seek_miss, seek_end}
 use Rattle.laws.specs.Arrays.{length_field}
-use Rattle.model.specs.StoreLaws.{places_start, crowded}
-use Rattle.std.proofs.lemmas.Bool.{not_from_false, not_from_true}
+use Rattle.model.specs.StoreLaws.{crowded, numbered, unnumbered}
 use Rattle.model.proofs.State.store_fits.Goals as goal
 
 pub returns-then-self-gt-STORE : goal.returns-then-self-gt-STORE
 returns-then-self-gt-STORE c = crowded _ _ c.if-self-gt-STORE.true
 
-pub loop-i-init : goal.loop-i-init
-loop-i-init c = places_start _ _ (search (rules, length_field)) c.if-self-gt-STORE.false
+pub returns-then-are_in_sequence : goal.returns-then-are_in_sequence
+returns-then-are_in_sequence c =
+    let long : length c.args.self.signals ≡ 64 = search (rules, length_field) in
+    numbered c.args.self.signals c.args.self.signal_count c.if-self-gt-STORE.false long (sym c.are_in_sequence.ensures ∙ c.if-are_in_sequence.true) c.are_zero.ensures
 
-pub returns-then-not-signal_fits : goal.returns-then-not-signal_fits
-returns-then-not-signal_fits c = seek_hit c.loop-i.invariant c.loop-i-test.true refl (ap not c.signal_fits.ensures) (not_from_false _ c.if-not-signal_fits.true)
-
-pub loop-i-preserved : goal.loop-i-preserved
-loop-i-preserved c = seek_miss c.loop-i.invariant c.loop-i-test.true refl (ap not c.signal_fits.ensures) (not_from_true _ c.if-not-signal_fits.false)
-
-pub returns : goal.returns
-returns c = seek_end c.loop-i.invariant c.loop-i-test.false
+pub returns-else-are_in_sequence : goal.returns-else-are_in_sequence
+returns-else-are_in_sequence c = c.if-are_in_sequence.false ∙ unnumbered c.args.self.signals c.args.self.signal_count (sym c.are_in_sequence.ensures ∙ c.if-are_in_sequence.false)

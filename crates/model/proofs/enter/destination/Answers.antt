@@ -5,5 +5,5 @@ pub returns-in-Enter : goal.returns-in-Enter
 unfolding destination
 returns-in-Enter c = simp c.in-Enter.is
 
-pub returns : goal.returns
-returns c = no_destination c.args.next c.in_default.not-Enter
+pub returns-in_default : goal.returns-in_default
+returns-in_default c = no_destination c.args.next c.in_default.not-Enter

@@ -16,6 +16,6 @@ pub returns : goal.returns
 returns c =
     let known = c.if-capped-n.false in
     record {
-      result_value = λ s k. arrives (workflow c.args.w.now) s _ _ _ c.arriving.result c.capped.ensures k known c.if-w-visits.false c.if-w-activations.false c.one_more-visit.ensures c.arriving.ensures.entered_value c.arriving.ensures.result_value;
+      result_value = λ s k. arrives (workflow c.args.w.now) s _ _ _ c.arriving.result c.capped.ensures k known c.if-w-visits.false c.if-w-activations.false c.one_more.ensures c.arriving.ensures.entered_value c.arriving.ensures.result_value;
       room = λ h. record { slot = omega (arith, c.capped.ensures, known); visit = c.if-w-visits.false; activation = c.if-w-activations.false };
     }

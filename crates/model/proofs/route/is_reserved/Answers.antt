@@ -5,6 +5,6 @@ pub returns-then-is_0_2 : goal.returns-then-is_0_2
 unfolding ◌and◌
 returns-then-is_0_2 c = simp (← c.is_0_2.ensures, c.if-is_0_2.true)
 
-pub returns : goal.returns
+pub returns-else-is_0_2 : goal.returns-else-is_0_2
 unfolding ◌and◌
-returns c = simp (← c.is_0_2.ensures, c.if-is_0_2.false)
+returns-else-is_0_2 c = simp (← c.is_0_2.ensures, c.if-is_0_2.false)

@@ -4,4 +4,4 @@ use Rattle.machine.proofs.events.Machine.not_applicable.Goals as goal
 
 pub returns : goal.returns
 unfolding performed not_applicable
-returns c = simp (← c.named_node.ensures, ← c.no_ending.ensures)
+returns c = simp (← c.named_node.ensures)

@@ -10,5 +10,5 @@ unfolding performed on_ended when◌then◌else◌
 returns c =
     elim c.if-self-eq-SIGNAL_RECEIVED.branch [
       | then-self-eq-SIGNAL_RECEIVED w ↦ simp (eq-eqb _ _ w.if-self-eq-SIGNAL_RECEIVED.true, w.ending-is)
-      | else-self-eq-SIGNAL_RECEIVED w ↦ simp (ne_eqb _ _ w.if-self-eq-SIGNAL_RECEIVED.false, w.ending-is, ← c.no_ending-ending.ensures)
+      | else-self-eq-SIGNAL_RECEIVED w ↦ simp (ne_eqb _ _ w.if-self-eq-SIGNAL_RECEIVED.false, w.ending-is)
     ]

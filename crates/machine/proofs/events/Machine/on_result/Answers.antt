@@ -6,7 +6,7 @@ use Rattle.machine.proofs.events.Machine.on_result.Goals as goal
 
 pub returns-then-not-applies : goal.returns-then-not-applies
 unfolding performed on_result when◌then◌else◌
-returns-then-not-applies c = simp (← c.applies.ensures, c.if-not-applies.true, ← c.named_node.ensures, ← c.no_ending.ensures)
+returns-then-not-applies c = simp (← c.applies.ensures, c.if-not-applies.true, ← c.named_node.ensures)
 
 pub returns-then-self-eq-SUCCESS : goal.returns-then-self-eq-SUCCESS
 unfolding on_result when◌then◌else◌

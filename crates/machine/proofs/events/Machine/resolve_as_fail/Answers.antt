@@ -2,10 +2,10 @@ use Rattle.machine.specs.Events.{resolve_as_fail}
 use Rattle.machine.specs.ReactionLaws.{performed}
 use Rattle.machine.proofs.events.Machine.resolve_as_fail.Goals as goal
 
-pub returns-in-Error : goal.returns-in-Error
+pub returns-in-Some : goal.returns-in-Some
 unfolding performed resolve_as_fail
-returns-in-Error c = simp c.in-Error.is
+returns-in-Some c = simp c.in-Some.is
 
-pub returns-in-Nothing : goal.returns-in-Nothing
+pub returns-in-None : goal.returns-in-None
 unfolding resolve_as_fail
-returns-in-Nothing c = simp (c.in-Nothing.is, ← c.fail_invocation.ensures)
+returns-in-None c = simp (c.in-None.is, ← c.fail_invocation.ensures)

@@ -10,13 +10,13 @@ use Rattle.model.proofs.answer.Answer.numbers.Goals as goal
 pub returns-in-Next : goal.returns-in-Next
 unfolding answer_numbers rows
 returns-in-Next c =
-    simp (c.in-Next.is, ← c.numbers-o.ensures)
-    (ap (λ (r : List ℕ). 1 ∷ c.in-Next.microsteps ∷ r) (rows_all 0 c.numbers-o.result 9 (search (rules, length_field))))
+    simp (c.in-Next.is, c.from.ensures, ← c.order_numbers-o.ensures)
+    (ap (λ (r : List ℕ). 1 ∷ c.in-Next.microsteps ∷ r) (rows_all 0 c.order_numbers-o.result 9 (search (rules, length_field))))
 
 pub returns-in-Wants : goal.returns-in-Wants
 unfolding answer_numbers
-returns-in-Wants c = simp c.in-Wants.is
+returns-in-Wants c = rw c.in-Wants.is cc
 
 pub returns-in-Refused : goal.returns-in-Refused
 unfolding answer_numbers
-returns-in-Refused c = rw (c.in-Refused.is, c.from.ensures, c.number.ensures)
+returns-in-Refused c = rw (c.in-Refused.is, c.from-in-Refused.ensures, c.from-in-Refused-2.ensures, c.number.ensures)

@@ -1,5 +1,7 @@
 use native.Mathlib.Omega.{arith}
-use borrow.Author.Tests.{eq-eqb, le-ltb, lt-ltb, ne_eqb}
+use lib.ListN.{get_or}
+use mathlib.Core.Path.{◌≡◌}
+use borrow.Author.Tests.{le-ltb, lt-ltb, ne_eqb}
 use Rattle.model.specs.Step.{no_mapping, answer}
 use Rattle.laws.specs.Bool.{when◌then◌else◌}
 use Rattle.laws.specs.Arrays.{past_getD, length_field}
@@ -14,14 +16,14 @@ pub returns-then-n-ge2 : goal.returns-then-n-ge2
 unfolding answer when◌then◌else◌
 returns-then-n-ge2 c = simp (lt-ltb _ _ c.if-self-i.false, ← past_getD _ c.args.self.answers 2 c.args.i (search (rules, length_field)) (omega arith) no_mapping)
 
-pub returns-then-x-eq-VALUE : goal.returns-then-x-eq-VALUE
+pub returns-in-1 : goal.returns-in-1
 unfolding answer when◌then◌else◌
-returns-then-x-eq-VALUE c = simp (lt-ltb _ _ c.if-self-i.false, eq-eqb _ _ c.if-x-eq-VALUE.true)
+returns-in-1 c = simp (lt-ltb _ _ c.if-self-i.false, c.in-1.is)
 
-pub returns-then-x-eq-FAULT : goal.returns-then-x-eq-FAULT
+pub returns-in-2 : goal.returns-in-2
 unfolding answer when◌then◌else◌
-returns-then-x-eq-FAULT c = simp (lt-ltb _ _ c.if-self-i.false, ne_eqb _ _ c.if-x-eq-VALUE.false, eq-eqb _ _ c.if-x-eq-FAULT.true)
+returns-in-2 c = simp (lt-ltb _ _ c.if-self-i.false, c.in-2.is)
 
-pub returns : goal.returns
+pub returns-in_default : goal.returns-in_default
 unfolding answer when◌then◌else◌
-returns c = simp (lt-ltb _ _ c.if-self-i.false, ne_eqb _ _ c.if-x-eq-VALUE.false, ne_eqb _ _ c.if-x-eq-FAULT.false)
+returns-in_default c = let x = get_or c.args.self.answers c.args.i no_mapping in let h : x.kind ≡ 1 → ⊥ = omega arith in let g : x.kind ≡ 2 → ⊥ = omega arith in simp (lt-ltb _ _ c.if-self-i.false, ne_eqb _ _ h, ne_eqb _ _ g)
