@@ -149,9 +149,6 @@ some_cons : {A : Type 0} (p : A → Bool) (x : A) (xs : List A) → some p (x �
 unfolding first when◌then◌else◌ ◌or◌
 some_cons p x xs = split (p x) (λ h. rw h) (λ h. rw h (some_at p (0 + 1) 0 xs))
 
-pub seek_from : {A : Type 0} {p : A → Bool} {f : ℕ → A} {k : ℕ} (a : ℕ) → Seek p (λ _ _. true) false f k a (some p (span f a k))
-seek_from {p = p} {f = f} {k = k} a = record { left = some_at p a 0 (span f a k) }
-
 none_in : (s : ℕ → Bool) (i : ℕ) → some_in i i s ≡ false
 unfolding first
 none_in s i = rw (span_none (λ j. j) i i (omega arith))

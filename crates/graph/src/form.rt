@@ -1,8 +1,8 @@
 // The form of a sheet (refusal 20): counts within their room, rows that fit and stand in order, unused slots zero.
 ghost use Rattle.std.specs.Prelude.{◌≡◌, ◌+◌, ◌≤◌, ◌<◌, leb};
-ghost use Rattle.workflow.specs.declared.refusal.Refusal.{Refusal};
 ghost use Rattle.std.specs.List.{All};
 ghost use Rattle.workflow.specs.Layout.{numbers};
+ghost use Rattle.workflow.specs.declared.refusal.Refusal.{Refusal};
 ghost use Rattle.workflow.specs.View.{workflow, column_blank, table_blank, blank};
 ghost use Rattle.graph.specs.Form.{counts_fit, formed_node, routes_at, formed_route, formed_limit, formed_declared, ascends, form};
 ghost use Rattle.graph.specs.Verdict.{rule};

@@ -106,7 +106,10 @@ pub fn rule_14(w: &[u32; NUMBERS]) -> Result<(), Broken>
     requires { Rules (workflow w.now) }
     ensures { result ≡ rule_at Refusal.Unreached (lowest (workflow w.now).node_count (breaks_14 (workflow w.now))) }
 {
-    rule_at(Refusal::Unreached, lowest_unreached(w, false, bit(w[layout::START])))
+    rule_at(
+        Refusal::Unreached,
+        lowest_unreached(w, false, bit(w[layout::START])),
+    )
 }
 
 pub fn rule_15(w: &[u32; NUMBERS]) -> Result<(), Broken>

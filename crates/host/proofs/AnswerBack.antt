@@ -1,5 +1,5 @@
 -- A written answer is read as the answer: what a host finds in its buffer is what the definition says.
-use Rattle.std.specs.Prelude.{◌≡◌, ℕ, ◌+◌, ◌^◌, ◌<◌, ltb, get_or, take, drop, Option, Some, None}
+use Rattle.std.specs.Prelude.{◌≡◌, ℕ, ◌+◌, ◌^◌, ◌≤◌, ◌<◌, ltb, get_or, take, drop, replicate, Option, Some, None}
 use Rattle.std.proofs.Math.Path.{refl}
 use Rattle.std.proofs.Common.{◌∙◌, length-append, get_or-append-add, ltb-true, ltb-false, eq-eqb}
 use mathlib.Core.List.{List, [], ◌∷◌, ◌++◌, flat_map, append_assoc}
@@ -31,6 +31,8 @@ use Rattle.host.proofs.WriteLaws.{Whole, flat_size, length_answer, length_note, 
 use Rattle.host.specs.Host.{receipt, decided, answered, Full}
 use Rattle.host.specs.ReadAnswer.{params_from, order_from, note_from, ending_from, accepted_from, answer_of_numbers}
 use Rattle.host.specs.Fits.{Fits, AcceptedFits, AnswerFits}
+use Rattle.host.specs.WriteRows.{front_numbers}
+use Rattle.host.proofs.WriteRowsLaws.{WroteIn}
 use Rattle.host.proofs.Lists.{span_list, row_at, length_padded, padded_at}
 use Rattle.host.proofs.RoundBack.{record_back_of, record_numbers_length}
 
@@ -109,6 +111,10 @@ module _ (d : Decision) (noted : length d.notes ≡ layout.notes) (ended : lengt
 
   pub decision_long : Whole d.state → length (decision_numbers d) ≡ answer_length
   decision_long h = length_decision (length_state d.answer d.state h)
+
+  -- the code's front, and zeros behind it
+  pub front_wrote : {l₀ l : List ℕ} → answer_length ≤ length l₀ → l ≡ splice l₀ 0 (front_numbers d ++ replicate record_length 0) → WroteIn l₀ 0 (front_numbers d) answer_record record_length l
+  front_wrote room e = record { so_far = e; size = length_ended; room = omega arith }
 
 -- A NEXT RECORD.
 module _ (x : Accepted) (f : AcceptedFits x) where

@@ -1,15 +1,15 @@
 -- A record read by count: where the rows past a count are zeros, they are read as empty rows, and they fit.
-use Rattle.std.specs.Prelude.{◌≡◌, refl, Bool, true, ◌&&◌, List, ℕ, zero, suc, ◌+◌, ◌-◌, ◌≤◌, ◌<◌, set, drop, replicate, ltb, eqb}
-use Rattle.std.proofs.Common.{sym, ◌∙◌, eqb-true, ltb-true, ltb-false}
+use Rattle.std.specs.Prelude.{◌≡◌, refl, Bool, true, ◌&&◌, List, [], ◌∷◌, ◌++◌, ℕ, zero, suc, ◌+◌, ◌-◌, ◌≤◌, ◌<◌, take, drop, replicate, ltb}
+use Rattle.std.proofs.Common.{sym, ◌∙◌, eqb-true, ltb-true, ltb-false, get_or-take, get_or-drop}
 use Rattle.std.proofs.lemmas.Bool.{false≢true}
 use native.Mathlib.Omega.{arith}
 use Rattle.std.proofs.Math.ListN.{length}
+use Rattle.std.proofs.Math.Seq.{length-take-le}
 use Rattle.std.proofs.lemmas.List.{length-replicate}
-use Rattle.laws.specs.Bool.{when◌then◌else◌, split}
+use Rattle.laws.specs.Bool.{when◌then◌else◌, split, both}
 use Rattle.laws.specs.Rows.{span, length_span, at_span}
-use Rattle.laws.specs.Every.{below}
-use Rattle.laws.specs.In.{every_in, in_span, below_at, at_below}
-use Rattle.laws.specs.Splice.{splice, Filled, fill_start, fill_next}
+use Rattle.laws.specs.Every.{every, below}
+use Rattle.laws.specs.In.{below_at, at_below}
 use Rattle.laws.specs.Listing.{padded}
 use Rattle.model.specs.Record.{no_signal, no_visits, no_streak, no_node_result}
 use Rattle.host.specs.declared.read.Used.{Used}
@@ -19,8 +19,17 @@ use Rattle.host.proofs.Lists.{span_list, length_padded, padded_at, padded_past}
 use Rattle.host.proofs.Cases.{below_fields, of_both}
 use Rattle.host.specs.ByCount.{blank, Zeros, SignalsPast, NodesPast, Past, record_rows}
 
-pub blank_zeros : (numbers : List ℕ) (start end : ℕ) → blank numbers start end ≡ true → Zeros numbers start end
-blank_zeros numbers start end h place a b = eqb-true _ 0 (every_in (λ number. eqb number 0) h (in_span (at numbers) (end - start) start end place (omega arith) a b))
+blank_at : (numbers : List ℕ) → blank numbers ≡ true → (i : ℕ) → at numbers i ≡ 0
+unfolding every
+blank_at [] e i = refl
+blank_at (x ∷ numbers) e zero = eqb-true x 0 (both _ _ e).0
+blank_at (x ∷ numbers) e (suc i) = blank_at numbers (both _ _ e).1 i
+
+pub blank_zeros : (numbers : List ℕ) (start end : ℕ) → blank (take (end - start) (drop start numbers)) ≡ true → Zeros numbers start end
+blank_zeros numbers start end e place a b =
+    let p : place ≡ start + (place - start) = omega arith in
+    let part = take (end - start) (drop start numbers) in
+    rw p (sym (get_or-take (end - start) (drop start numbers) (place - start) 0 (omega arith) ∙ get_or-drop start numbers (place - start) 0) ∙ blank_at part e (place - start))
 
 -- Rows that f reads up to k, and the empty one from there on, are all that f reads.
 padded_span : {A : Type 0} (f : ℕ → A) (d : A) (n k : ℕ) → k ≤ n → ((i : ℕ) → k ≤ i → i < n → f i ≡ d) → padded n d (span f 0 k) ≡ span f 0 n
@@ -112,32 +121,15 @@ rows_fit r {used} h =
     let n = h.nodes in
     rw (below_more used.signals store (signal_fits r) s.low (signal_fine r _ s), below_more used.nodes nodes (node_fits r) n.low (node_fine r _ n))
 
--- A LOOP that reads the first k rows into an array of n empty ones.
-pub record RowsRead {A : Type 0} (f : ℕ → A) (d : A) (n k i : ℕ) (l₀ l : List A) : Type 0 where
-  pub filled : Filled f n i l₀ l
-  pub empty : l₀ ≡ replicate n d
-  pub inside : i ≤ k
-  pub low : k ≤ n
-
+-- ROWS READ into an array of n empty ones: the first k.
 pub drop_replicate : {A : Type 0} (d : A) (n k : ℕ) → drop k (replicate n d) ≡ replicate (n - k) d
 drop_replicate d n zero = let e : n - 0 ≡ n = omega arith in rw e
 drop_replicate d zero (suc k) = let e : 0 - suc k ≡ 0 = omega arith in rw e
 drop_replicate d (suc n) (suc k) = let e : suc n - suc k ≡ n - k = omega arith in rw e (drop_replicate d n k)
 
-pub rows_start : {A : Type 0} {f : ℕ → A} {d : A} {n k : ℕ} {l : List A} → l ≡ replicate n d → k ≤ n → RowsRead f d n k 0 l l
-rows_start {A} {f} {d} {n} {k} {l} e h = record { filled = fill_start (rw e (length-replicate n d)); empty = e; inside = omega arith; low = h }
-
-module _ {A : Type 0} {f : ℕ → A} {d : A} {n k i : ℕ} {l₀ l : List A} (inv : RowsRead f d n k i l₀ l) where
-  pub rows_next : {x : A} → x ≡ f i → i < k → RowsRead f d n k (i + 1) l₀ (set l i x)
-  rows_next e h =
-      let a = inv.low in
-      record { filled = fill_next inv.filled e (omega arith); empty = inv.empty; inside = omega arith; low = a }
-
-  pub rows_end : k ≤ i → l ≡ padded n d (span f 0 k)
-  unfolding padded splice
-  rows_end h =
-      let a = inv.inside in
-      let e : i ≡ k = omega arith in
-      let s = length_span f k in
-      let z : 0 + length (span f 0 k) ≡ length (span f 0 k) = omega arith in
-      (rw (e, inv.empty) at inv.filled.so_far) ∙ rw (z, drop_replicate)
+pub rows_padded : {A : Type 0} (d : A) (n k : ℕ) (f : ℕ → A) {part : List A} → k ≤ n → part ≡ span f 0 (length (take k (replicate n d))) → part ++ drop k (replicate n d) ≡ padded n d (span f 0 k)
+unfolding padded
+rows_padded d n k f low e =
+    let l : length (take k (replicate n d)) ≡ k = length-take-le k (replicate n d) (omega (arith, length-replicate n d)) in
+    let s = length_span f k in
+    rw (e, l, s) (rw drop_replicate)

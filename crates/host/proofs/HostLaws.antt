@@ -1,12 +1,12 @@
 -- What a receipt tells of what was lent.
 use Rattle.std.proofs.Math.Path.{◌≡◌, sym}
-use Rattle.std.specs.Prelude.{refl, Bool, true, false, List, [], ◌∷◌, ℕ, ◌≤◌, ◌<◌, ltb, eqb, Ok, Err, Some}
-use Rattle.std.proofs.Common.{◌∙◌, ap, arith}
+use Rattle.std.specs.Prelude.{refl, true, false, List, ◌++◌, ℕ, ◌≤◌, ◌<◌, drop, ltb, eqb, Result, Ok, Err, Some}
+use Rattle.std.proofs.Common.{◌∙◌, ap, ap₂, arith}
 use Rattle.std.proofs.Math.Bool.{not}
-use Rattle.std.proofs.Math.ListN.{length, get_or, set}
+use Rattle.std.proofs.Math.ListN.{length}
 use borrow.Author.Tests.{ltb-false, lt-ltb, le-ltb, eqb-true, eq-eqb, ne_eqb}
 use Rattle.laws.specs.Bool.{when◌then◌else◌, ◌and◌, split, if_true, if_false}
-use Rattle.laws.specs.Splice.{splice, splice_one, splice_more, length_splice}
+use Rattle.laws.specs.Splice.{splice}
 use Rattle.workflow.specs.Layout.{numbers as sheet_length}
 use Rattle.workflow.specs.View.{workflow}
 use Rattle.model.specs.declared.State.{State}
@@ -16,6 +16,7 @@ use Rattle.kernel.specs.declared.Decision.{Decision}
 use Rattle.kernel.specs.declared.Call.{Call}
 use Rattle.kernel.specs.Call.{Last, given_record, transition}
 use Rattle.kernel.specs.Decision.{decision_of}
+use Rattle.host.specs.declared.Fault.{Fault}
 use Rattle.host.specs.Layout as layout
 use Rattle.host.specs.Layout.{call_length, record_length, answer_length, verdict_length}
 use Rattle.host.specs.Read.{has_record, record_of, call_of, record_fits, call_fits}
@@ -24,52 +25,53 @@ use Rattle.host.specs.declared.read.Used.{Used}
 use Rattle.host.specs.ByCount.{UsedRows, record_rows}
 use Rattle.host.proofs.ByCountLaws.{rows_record}
 use Rattle.host.specs.Host.{Lent, receipt, decided, answered, verdict_receipt, verdict_numbers, judged}
-use Rattle.host.specs.Receipt.{by_lengths, by_numbers}
+use Rattle.host.specs.Receipt.{fault_number, outcome_number, by_numbers}
 
-module _ (n c r b : ℕ) where
-  pub lent : by_lengths n c r b ≡ layout.written → Lent n c r b
-  unfolding by_lengths when◌then◌else◌
-  lent e =
+-- THE TESTS in their order. A receipt is that of the first length that isn't the layout's; and with all lengths, that of the numbers.
+module _ (n : ℕ) (c r : List ℕ) (b : ℕ) where
+  pub receipt_sheet : (n ≡ sheet_length → ⊥) → layout.bad_sheet_length ≡ receipt n c r b
+  unfolding receipt when◌then◌else◌
+  receipt_sheet h = simp (ne_eqb _ _ h)
+
+  module _ (s : n ≡ sheet_length) where
+    pub receipt_call_length : (length c ≡ call_length → ⊥) → layout.bad_call_length ≡ receipt n c r b
+    unfolding receipt when◌then◌else◌
+    receipt_call_length h = simp (eq-eqb _ _ s, ne_eqb _ _ h)
+
+    module _ (k : length c ≡ call_length) where
+      pub receipt_record_length : (length r ≡ record_length → ⊥) → layout.bad_record_length ≡ receipt n c r b
+      unfolding receipt when◌then◌else◌
+      receipt_record_length h = simp (eq-eqb _ _ s, eq-eqb _ _ k, ne_eqb _ _ h)
+
+      pub receipt_room : length r ≡ record_length → b < answer_length → layout.short_buffer ≡ receipt n c r b
+      unfolding receipt when◌then◌else◌
+      receipt_room g h = simp (eq-eqb _ _ s, eq-eqb _ _ k, eq-eqb _ _ g, lt-ltb _ _ h)
+
+  pub receipt_numbers : Lent n (length c) (length r) b → outcome_number (by_numbers c r) ≡ receipt n c r b
+  unfolding receipt by_numbers when◌then◌else◌
+  receipt_numbers l =
+      simp (eq-eqb _ _ l.sheet, eq-eqb _ _ l.call, eq-eqb _ _ l.given, le-ltb _ _ l.roomy)
+      (split (call_fits c) (λ h. split (has_record c and not (record_fits r)) (λ g. rw (h, g)) (λ g. rw (h, g))) (λ h. rw h))
+
+  -- the same, of what the code read of call and record
+  pub receipt_told : {o : Result (Unit {0}) Fault} {k g : List ℕ} → o ≡ by_numbers k g → k ≡ c → g ≡ r → Lent n (length c) (length r) b → outcome_number o ≡ receipt n c r b
+  receipt_told e p q l = ap outcome_number (e ∙ ap₂ by_numbers p q) ∙ receipt_numbers l
+
+  -- A receipt of 0: the lengths are the layout's, and call and record fit.
+  pub receipt_lent : receipt n c r b ≡ layout.written → Lent n (length c) (length r) b
+  unfolding receipt when◌then◌else◌
+  receipt_lent e =
       split (eqb n sheet_length)
-      (λ h. split (eqb c call_length)
-      (λ i. split (eqb r record_length)
+      (λ h. split (eqb (length c) call_length)
+      (λ i. split (eqb (length r) record_length)
       (λ j. split (ltb b answer_length) (λ k. let z : ◌≡◌ {A = ℕ} 1 0 = rw (h, i, j, k) at e in absurd (omega arith))
-      (λ k. record { sheet = eqb-true n sheet_length h; call = eqb-true c call_length i; given = eqb-true r record_length j; roomy = ltb-false b answer_length k }))
+      (λ k. record { sheet = eqb-true n sheet_length h; call = eqb-true (length c) call_length i; given = eqb-true (length r) record_length j; roomy = ltb-false b answer_length k }))
       (λ j. let z : ◌≡◌ {A = ℕ} 6 0 = rw (h, i, j) at e in absurd (omega arith)))
       (λ i. let z : ◌≡◌ {A = ℕ} 5 0 = rw (h, i) at e in absurd (omega arith)))
       (λ h. let z : ◌≡◌ {A = ℕ} 4 0 = rw h at e in absurd (omega arith))
 
-  pub of_lent : Lent n c r b → by_lengths n c r b ≡ layout.written
-  unfolding by_lengths when◌then◌else◌
-  of_lent l = rw (eq-eqb n sheet_length l.sheet, eq-eqb c call_length l.call, eq-eqb r record_length l.given, le-ltb b answer_length l.roomy)
-
-module _ (n : ℕ) (c r : List ℕ) (b : ℕ) where
-  abbrev lengths : ℕ
-  lengths = by_lengths n (length c) (length r) b
-
-  receipt_parts : receipt n c r b ≡ (when eqb lengths layout.written then by_numbers c r else lengths)
-  unfolding receipt by_lengths by_numbers when◌then◌else◌
-  receipt_parts =
-      split (eqb n sheet_length)
-      (λ h. split (eqb (length c) call_length)
-      (λ i. split (eqb (length r) record_length) (λ j. split (ltb b answer_length) (λ k. rw (h, i, j, k)) (λ k. rw (h, i, j, k))) (λ j. rw (h, i, j)))
-      (λ i. rw (h, i)))
-      (λ h. rw h)
-
-  pub receipt_turned : (lengths ≡ layout.written → ⊥) → lengths ≡ receipt n c r b
-  receipt_turned e = sym (receipt_parts ∙ if_false _ _ _ (ne_eqb lengths layout.written e))
-
-  pub receipt_read : lengths ≡ layout.written → by_numbers c r ≡ receipt n c r b
-  receipt_read e = sym (receipt_parts ∙ if_true _ _ _ (eq-eqb lengths layout.written e))
-
-  -- A receipt of 0: the lengths are the layout's, and call and record fit.
-  pub receipt_lent : receipt n c r b ≡ layout.written → Lent n (length c) (length r) b
-  receipt_lent e =
-      lent n (length c) (length r) b
-      (split (eqb lengths layout.written) (λ h. eqb-true lengths layout.written h) (λ h. sym (receipt_parts ∙ if_false _ _ _ h) ∙ e))
-
-  done : receipt n c r b ≡ layout.written → by_numbers c r ≡ layout.written
-  done e = receipt_read (of_lent n (length c) (length r) b (receipt_lent e)) ∙ e
+  done : receipt n c r b ≡ layout.written → outcome_number (by_numbers c r) ≡ layout.written
+  done e = receipt_numbers (receipt_lent e) ∙ e
 
   pub receipt_call : receipt n c r b ≡ layout.written → call_fits c ≡ true
   unfolding by_numbers when◌then◌else◌
@@ -85,7 +87,7 @@ module _ (n : ℕ) (c r : List ℕ) (b : ℕ) where
   -- Lengths of the layout, and no record that doesn't fit: the call alone decides.
   pub receipt_by_call : (has_record c and not (record_fits r)) ≡ false → Lent n (length c) (length r) b → receipt n c r b ≡ (when call_fits c then layout.written else layout.bad_call)
   unfolding by_numbers when◌then◌else◌
-  receipt_by_call h l = sym (receipt_read (of_lent n (length c) (length r) b l)) ∙ split (call_fits c) (λ k. rw (k, h)) (λ k. rw k)
+  receipt_by_call h l = sym (receipt_numbers l) ∙ split (call_fits c) (λ k. rw (k, h)) (λ k. rw k)
 
   -- Only a record that doesn't fit is turned away as one.
   pub receipt_not_3 : (has_record c and not (record_fits r)) ≡ false → receipt n c r b ≡ layout.bad_record → ⊥
@@ -102,27 +104,34 @@ module _ (n : ℕ) (c r : List ℕ) (b : ℕ) where
 
   pub receipt_done : Lent n (length c) (length r) b → call_fits c ≡ true → (has_record c ≡ true → record_fits r ≡ true) → receipt n c r b ≡ layout.written
   unfolding by_numbers when◌then◌else◌ ◌and◌
-  receipt_done l k g =
-      sym (receipt_read (of_lent n (length c) (length r) b l))
-      ∙ split (has_record c) (λ a. let m = g a in rw (k, a, m)) (λ a. rw (k, a))
+  receipt_done l k g = sym (receipt_numbers l) ∙ split (has_record c) (λ a. let m = g a in rw (k, a, m)) (λ a. rw (k, a))
 
 -- The record that goes with a call, read by count.
 pub given_rows : {r : List ℕ} {used : Used} {s : State} → UsedRows true r used → s ≡ record_rows used.signals used.nodes r → Some s ≡ given_record true (record_of r)
 given_rows {r} u p = ap Some (p ∙ rows_record r (u.past refl))
 
+-- A fault's number isn't that of what is written.
+pub fault_told : (fault : Fault) → fault_number fault ≡ layout.written → ⊥
+fault_told Fault.ShortBuffer e = omega arith
+fault_told Fault.BadCall e = omega arith
+fault_told Fault.BadRecord e = omega arith
+fault_told Fault.SheetLength e = omega arith
+fault_told Fault.CallLength e = omega arith
+fault_told Fault.RecordLength e = omega arith
+
 -- WHAT A CALL LEAVES in the buffer: the decision on what was read, or the buffer as it was.
 module _ (w : List ℕ) (n : ℕ) (c r b : List ℕ) where
-  pub made : {g : Last} {k : Call} {d : Decision} → g ≡ given_record (has_record c) (record_of r) → k ≡ call_of c → d ≡ decision_of (transition (workflow w) g k) → d ≡ decided w c r
+  pub made : {l : Last} {call : Call} {d : Decision} {k g : List ℕ} → k ≡ c → g ≡ r → l ≡ given_record (has_record k) (record_of g) → call ≡ call_of k → d ≡ decision_of (transition (workflow w) l call) → d ≡ decided w c r
   unfolding decided
-  made p q e = e ∙ rw (p, q)
+  made x y p q e = e ∙ rw (p, q, x, y)
 
   pub left : {d : Decision} {l : List ℕ} → d ≡ decided w c r → receipt n c r (length b) ≡ layout.written → l ≡ splice b 0 (decision_numbers d) → l ≡ answered w n c r b
   unfolding answered
   left p z e = e ∙ rw p (sym (if_true _ _ _ (eq-eqb _ layout.written z)))
 
-  pub untouched : (receipt n c r (length b) ≡ layout.written → ⊥) → b ≡ answered w n c r b
+  pub untouched : (fault : Fault) → fault_number fault ≡ receipt n c r (length b) → b ≡ answered w n c r b
   unfolding answered
-  untouched e = sym (if_false _ _ _ (ne_eqb _ layout.written e))
+  untouched fault e = sym (if_false _ _ _ (ne_eqb _ layout.written (λ z. fault_told fault (e ∙ z))))
 
 -- A VERDICT'S two numbers.
 length_verdict : (v : Verdict) → length (verdict_numbers v) ≡ verdict_length
@@ -130,11 +139,10 @@ unfolding verdict_numbers
 length_verdict (Ok tt) = refl
 length_verdict (Err x) = refl
 
-two_of : (l : List ℕ) → length l ≡ 2 → l ≡ get_or l 0 0 ∷ get_or l 1 0 ∷ []
-two_of [] e = absurd (omega arith)
-two_of (x ∷ []) e = absurd (omega arith)
-two_of (x ∷ y ∷ []) e = refl
-two_of (x ∷ y ∷ z ∷ l) e = absurd (omega arith)
+verdict_front : (v : Verdict) (b : List ℕ) → verdict_numbers v ++ drop verdict_length b ≡ splice b 0 (verdict_numbers v)
+unfolding splice verdict_numbers
+verdict_front (Ok tt) b = refl
+verdict_front (Err x) b = refl
 
 -- The tests, one by one: of a sheet's length n and the room for the two numbers.
 module _ (n room : ℕ) where
@@ -151,17 +159,11 @@ module _ (n room : ℕ) where
   has_both h g = simp (eq-eqb _ _ h, le-ltb _ _ g)
 
 module _ (w : List ℕ) (n : ℕ) (k : Ceilings) (b : List ℕ) where
-  pub judged_two : {v : Verdict} {l : List ℕ} → v ≡ verdict (workflow w) k → l ≡ verdict_numbers v → verdict_length ≤ length b → verdict_receipt n (length b) ≡ layout.written → set (set b 0 (get_or l 0 0)) 1 (get_or l 1 0) ≡ judged w n k b
+  pub judged_verdict : {v : Verdict} {l part : List ℕ} → v ≡ verdict (workflow w) k → l ≡ verdict_numbers v → part ≡ l → verdict_length ≤ length b → verdict_receipt n (length b) ≡ layout.written → part ++ drop verdict_length b ≡ judged w n k b
   unfolding judged
-  judged_two {v} {l} p q room e =
-      let long : length l ≡ 2 = rw q (length_verdict v) in
-      let x = get_or l 0 0 in
-      let y = get_or l 1 0 in
-      let first : set b 0 x ≡ splice b 0 (x ∷ []) = splice_one b 0 x (omega arith) in
-      let size : length (splice b 0 (x ∷ [])) ≡ length b = length_splice b 0 (x ∷ []) (omega arith) in
-      let both : set (set b 0 x) 1 y ≡ splice b 0 (x ∷ y ∷ []) =
-      rw first (splice_one (splice b 0 (x ∷ [])) 1 y (omega arith) ∙ splice_more b 0 (x ∷ []) (y ∷ []) 1 (omega arith) (omega arith)) in
-      both ∙ rw (sym (two_of l long), q, p) (sym (if_true _ _ _ (eq-eqb _ layout.written e)))
+  judged_verdict {v} {l} p q r room e =
+      let told : judged w n k b ≡ splice b 0 (verdict_numbers (verdict (workflow w) k)) = if_true _ _ _ (eq-eqb _ layout.written e) in
+      rw (r, q, p) (verdict_front (verdict (workflow w) k) b ∙ sym told)
 
   pub unjudged : (verdict_receipt n (length b) ≡ layout.written → ⊥) → b ≡ judged w n k b
   unfolding judged

@@ -1,9 +1,11 @@
--- The tests of numbers as the code makes them: one test behind the other, and loops that gather what they saw.
-use Rattle.std.specs.Prelude.{◌≡◌, refl, Bool, true, false, ◌&&◌, List, [], ◌∷◌, ℕ, ◌+◌, ◌≤◌, ◌<◌}
+-- The tests of numbers as the code makes them: one test behind the other, and chains.
+use Rattle.std.specs.Prelude.{◌≡◌, refl, Bool, ◌&&◌, List, [], ◌∷◌, ℕ, zero, suc, ◌+◌, ◌-◌, eqb, bit_or}
+use Rattle.std.specs.List.{fold, list_all, range_with_len}
 use Rattle.std.proofs.Math.Path.{sym}
-use Rattle.std.proofs.Common.{◌∙◌}
+use Rattle.std.proofs.Common.{◌∙◌, arith}
 use Rattle.laws.specs.Bool.{◌and◌, and_true, strict_and, and_left}
-use Rattle.laws.specs.Rows.{span, span_more, span_none}
+use Rattle.laws.specs.Rows.{rows, span}
+use Rattle.laws.specs.Zeros.{Dirt, dirt_more, dirt_end}
 use Rattle.laws.specs.Every.{every, below}
 use Rattle.host.specs.Read.{Field, field_fits, all_fit}
 
@@ -21,28 +23,27 @@ pub each_fits : (numbers : List ℕ) (field : Field) (fields : List Field) → g
 unfolding all_fit every
 each_fits numbers field fields = gathered_every (field_fits numbers) (field_fits numbers field) fields
 
--- A LOOP from i to k with b what was found so far: with q of all that is left it is the whole answer w.
-pub record Gather (q : ℕ → Bool) (k i : ℕ) (b : Bool) (w : Bool) : Type 0 where
-  pub left : (b && every q (span (λ n. n) i k)) ≡ w
+-- ALL THAT IS TESTED, in std's words: what a chain over the numbers below k answers, and the digits of all numbers joined.
+all_rows : (p : ℕ → Bool) (i k : ℕ) → list_all p (range_with_len i k) ≡ every p (rows (λ n. n) i k)
+unfolding every rows
+all_rows p i zero = refl
+all_rows p i (suc k) = rw (all_rows p (i + 1) k) (sym (strict_and (p i) (every p (rows (λ n. n) (i + 1) k))))
 
-pub gather_start : {q : ℕ → Bool} {k : ℕ} → Gather q k 0 true (below k q)
-gather_start = record { left = refl }
+pub all_below : (p : ℕ → Bool) (k : ℕ) → list_all p (range_with_len 0 k) ≡ below k p
+unfolding span
+all_below p k = let z : k - 0 ≡ k = omega arith in rw z (all_rows p 0 k)
 
-regroup : (a b c : Bool) → (a && (b and c)) ≡ ((a && b) && c)
+or_none : (a b : ℕ) → eqb (bit_or a b) 0 ≡ (eqb a 0 and eqb b 0)
+unfolding every span rows ◌and◌
+or_none a b =
+    let start : Dirt (λ _. b) 1 0 a (eqb a 0 and every (λ x. eqb x 0) (span (λ _. b) 0 1)) = record { left = refl } in
+    dirt_end (dirt_more start (omega arith)) (omega arith) ∙ rw (sym (and_true (eqb b 0)))
+
+or_from : (d : ℕ) (numbers : List ℕ) → eqb (fold bit_or d numbers) 0 ≡ (eqb d 0 and every (λ x. eqb x 0) numbers)
+unfolding every
+or_from d [] = and_true (eqb d 0)
+or_from d (x ∷ numbers) = or_from (bit_or d x) numbers ∙ rw (or_none d x) (sym (and_left (eqb d 0) (eqb x 0) (every (λ x. eqb x 0) numbers)))
+
+pub or_zeros : (numbers : List ℕ) → eqb (fold bit_or 0 numbers) 0 ≡ every (λ x. eqb x 0) numbers
 unfolding ◌and◌
-regroup true true c = refl
-regroup true false c = refl
-regroup false b c = refl
-
-strict_true : (a : Bool) → (a && true) ≡ a
-strict_true true = refl
-strict_true false = refl
-
-module _ {q : ℕ → Bool} {k i : ℕ} {b w : Bool} (inv : Gather q k i b w) where
-  pub gather_more : {x : Bool} → x ≡ q i → i < k → Gather q k (i + 1) (b && x) w
-  unfolding every
-  gather_more e h = record { left = rw (e, ← regroup) (rw (span_more (λ n. n) i k h) at inv.left) }
-
-  pub gather_end : k ≤ i → b ≡ w
-  unfolding every
-  gather_end h = sym (strict_true b) ∙ (rw (span_none (λ n. n) i k h) at inv.left)
+or_zeros numbers = or_from 0 numbers

@@ -5,26 +5,15 @@ use mathlib.Core.List.{List, [], ◌∷◌, ◌++◌, flat_map, append_assoc, ap
 use Rattle.std.proofs.lemmas.List.{get_or_at}
 use Rattle.laws.specs.Rows.{rows, rows_all}
 use Rattle.laws.specs.Splice.{splice, splice_more, length_flat}
-use Rattle.model.specs.declared.Output.{Output}
 use Rattle.model.specs.declared.ErrorInfo.{ErrorInfo}
-use Rattle.model.specs.declared.BufferedSignal.{BufferedSignal}
-use Rattle.model.specs.declared.Visits.{Visits}
-use Rattle.model.specs.declared.Streak.{Streak}
 use Rattle.model.specs.declared.NodeResult.{NodeResult}
 use Rattle.model.specs.declared.State.{State}
 use Rattle.model.specs.declared.answer.Order.{Order}
-use Rattle.model.specs.declared.answer.Note.{Note}
-use Rattle.model.specs.declared.answer.Ending.{Ending}
 use Rattle.model.specs.declared.answer.Answer.{Answer}
 use Rattle.model.specs.Answers.{output_numbers, kept_numbers, params_numbers, order_numbers, answer_numbers}
-use Rattle.host.specs.Layout.{store, nodes, signal_width, streak_width, result_width, note_width, ending_width, output_width, error_width, record_error, record_stored, record_signals, record_length, answer_noted}
-use Rattle.host.specs.Write.{signal_numbers, visits_numbers, streak_numbers, result_numbers, note_numbers, ending_numbers, scalar_numbers, head_numbers, record_numbers}
-
-pub length_output : (x : Output) → length (output_numbers x) ≡ output_width
-unfolding output_numbers
-length_output Output.Nothing = refl
-length_output (Output.Handle x) = refl
-length_output (Output.Error e) = refl
+use Rattle.host.specs.Layout.{store, nodes, error_width, record_error, record_stored, record_signals, record_length, answer_noted}
+use Rattle.host.specs.Write.{signal_numbers, visits_numbers, streak_numbers, result_numbers, scalar_numbers, head_numbers, record_numbers}
+pub use Rattle.host.specs.RowLaws.{length_output, length_signal, length_visits, length_streak, length_result, length_note, length_ending}
 
 pub length_kept : (x : Option ErrorInfo) → length (kept_numbers x) ≡ error_width
 unfolding kept_numbers
@@ -48,34 +37,10 @@ length_answer (Answer.Next o k) = rw (length_order o)
 length_answer (Answer.Wants n f b) = refl
 length_answer (Answer.Refused k i) = refl
 
-pub length_signal : (x : BufferedSignal) → length (signal_numbers x) ≡ signal_width
-unfolding signal_numbers
-length_signal x = refl
-
-pub length_visits : (x : Visits) → length (visits_numbers x) ≡ 1
-unfolding visits_numbers
-length_visits x = refl
-
-pub length_streak : (x : Streak) → length (streak_numbers x) ≡ streak_width
-unfolding streak_numbers
-length_streak x = refl
-
-pub length_result : (x : NodeResult) → length (result_numbers x) ≡ result_width
-unfolding result_numbers
-length_result x = rw (length_output x.output)
-
 -- A result's numbers from those of its output.
 pub result_row : (x : NodeResult) (o : List ℕ) → o ≡ output_numbers x.output → (x.visit ∷ x.outcome ∷ get_or o 0 0 ∷ get_or o 1 0 ∷ get_or o 2 0 ∷ get_or o 3 0 ∷ []) ≡ result_numbers x
 unfolding result_numbers rows
 result_row x o e = ap (λ (r : List ℕ). x.visit ∷ x.outcome ∷ r) (rows_all 0 o 4 (rw e (length_output x.output)) ∙ e)
-
-pub length_note : (x : Note) → length (note_numbers x) ≡ note_width
-unfolding note_numbers
-length_note x = refl
-
-pub length_ending : (x : Ending) → length (ending_numbers x) ≡ ending_width
-unfolding ending_numbers
-length_ending x = refl
 
 pub length_scalars : (s : State) → length (scalar_numbers s) ≡ record_error
 unfolding scalar_numbers

@@ -1,24 +1,21 @@
 -- Rows written by count, over zeros: rows that are left out are empty, so that their numbers are the zeros that stand there.
-use Rattle.std.specs.Prelude.{◌≡◌, true, false, get_or, set, replicate, ltb, eqb}
+use Rattle.std.specs.Prelude.{◌≡◌, true, false, get_or, replicate}
 use Rattle.std.proofs.Math.Path.{refl}
-use Rattle.std.proofs.Common.{sym, ap, ◌∙◌, mul-suc, mul-add, length-drop, take_at, get_or-append-add, eqb-true, ltb-true, ltb-false}
+use Rattle.std.proofs.Common.{get_or-drop, sym, ap, ◌∙◌, mul-suc, mul-add, length-drop, take_at, get_or-append-add}
 use Rattle.std.proofs.lemmas.Bool.{false≢true}
 use mathlib.Core.List.{List, [], ◌∷◌, ◌++◌, flat_map, append_assoc, append-nil}
 use Prim.Native.Nat.{ℕ, zero, suc, ◌+◌, ◌*◌, ◌-◌, ◌≤◌, ◌<◌, min}
 use native.Mathlib.Omega.{arith}
+use Rattle.std.proofs.Math.Nat.{mul-le-mul_left}
 use Rattle.std.proofs.Math.ListN.{length, take, drop, length-append, get_or-append}
 use Rattle.std.proofs.lemmas.List.{length-replicate, replicate-append-replicate, drop-append-le}
-use Rattle.std.proofs.Math.Seq.{length-take-le, drop-append-add}
-use Rattle.std.specs.Int.Bits.{bit_or, or_add_and}
-use Rattle.std.proofs.lemmas.Nat.{and_le_l, and_le_r}
-use Rattle.laws.specs.Bool.{when◌then◌else◌, split}
-use Rattle.laws.specs.Splice.{splice, splice_one, splice_more, length_splice, length_flat, Written, write_start, write_next}
+use Rattle.std.proofs.Math.Seq.{length-take-le, drop-append-add, drop-drop}
+use borrow.Rule.Slice.PartMut.{put_mid}
+use Rattle.std.specs.Int.Bits.{bit_or}
+use Rattle.std.specs.List.{fold}
+use Rattle.laws.specs.Bool.{when◌then◌else◌}
+use Rattle.laws.specs.Splice.{splice, splice_more, length_splice, length_flat}
 use Rattle.laws.specs.Listing.{padded}
-use Rattle.model.specs.declared.Output.{Output}
-use Rattle.model.specs.declared.BufferedSignal.{BufferedSignal}
-use Rattle.model.specs.declared.Visits.{Visits}
-use Rattle.model.specs.declared.Streak.{Streak}
-use Rattle.model.specs.declared.NodeResult.{NodeResult}
 use Rattle.model.specs.declared.State.{State}
 use Rattle.model.specs.declared.answer.Answer as code
 use Rattle.model.specs.Answers.{output_numbers, answer_numbers}
@@ -28,12 +25,15 @@ use Rattle.kernel.specs.declared.Decision.{Decision}
 use Rattle.kernel.specs.Call.{Answer, next, wants, refused}
 use Rattle.kernel.specs.Decision.{decision_of}
 use Rattle.host.specs.Layout as layout
-use Rattle.host.specs.Write.{signal_numbers, visits_numbers, streak_numbers, result_numbers, note_numbers, ending_numbers, state_numbers, record_numbers, decision_numbers}
+use mir.Val.{bool_byte}
+use Rattle.std.specs.Prelude.{Bool}
+use Rattle.host.specs.Write.{marked, signal_numbers, visits_numbers, streak_numbers, result_numbers, note_numbers, ending_numbers, state_numbers, record_numbers, decision_numbers}
+use Rattle.host.specs.RowLaws.{or_both}
 use Rattle.host.proofs.WriteLaws.{Whole, length_answer, length_note, length_ending, length_record}
 use Rattle.host.proofs.Lists.{padded_past, getD_replicate_same}
 use Rattle.host.specs.ByCount.{Zeros}
 use Rattle.host.proofs.ByCountLaws.{drop_replicate}
-use Rattle.host.specs.WriteRows.{rows_of, EmptyPast, RowsWritten, is_refused, Counted}
+use Rattle.host.specs.WriteRows.{EmptyPast, Leading, front_numbers, is_refused, Counted}
 
 abbrev zeros : ℕ → List ℕ
 zeros n = replicate n 0
@@ -44,36 +44,7 @@ length_zeros n = length-replicate {A = ℕ} n 0
 zeros_more : (n m : ℕ) → zeros n ++ zeros m ≡ zeros (n + m)
 zeros_more n m = replicate-append-replicate {A = ℕ} n m 0
 
--- EMPTY ROWS. Digits joined are 0 only if all are.
-or_both : (a b : ℕ) → bit_or a b ≡ 0 → (a ≡ 0) × (b ≡ 0)
-or_both a b e = let s = or_add_and a b in let l = and_le_l a b in let r = and_le_r a b in (omega arith, omega arith)
-
-pub signal_is : (x : BufferedSignal) → bit_or (bit_or (bit_or (bit_or x.sequence x.event_id) x.signal) x.outcome) x.«data» ≡ 0 → x ≡ no_signal
-signal_is x e =
-    let two = bit_or x.sequence x.event_id in
-    let three = bit_or two x.signal in
-    let four = bit_or three x.outcome in
-    let a = or_both four x.«data» e in
-    let b = or_both three x.outcome a.0 in
-    let c = or_both two x.signal b.0 in
-    let d = or_both x.sequence x.event_id c.0 in
-    let z : record { sequence = x.sequence; event_id = x.event_id; signal = x.signal; outcome = x.outcome; «data» = x.«data» } ≡ no_signal = rw (d.0, d.1, c.1, b.1, a.1) in
-    z
-
-pub visits_is : (x : Visits) → x.count ≡ 0 → x ≡ no_visits
-visits_is x e = let z : record { count = x.count } ≡ no_visits = rw e in z
-
-pub streak_is : (x : Streak) → bit_or x.outcome x.count ≡ 0 → x ≡ no_streak
-streak_is x e = let a = or_both x.outcome x.count e in let z : record { outcome = x.outcome; count = x.count } ≡ no_streak = rw (a.0, a.1) in z
-
-pub result_is : (x : NodeResult) {o : ℕ} → (o ≡ 0 → x.output ≡ Output.Nothing) → bit_or (bit_or x.visit x.outcome) o ≡ 0 → x ≡ no_node_result
-result_is x {o} t e =
-    let a = or_both (bit_or x.visit x.outcome) o e in
-    let b = or_both x.visit x.outcome a.0 in
-    let z : record { visit = x.visit; outcome = x.outcome; output = x.output } ≡ no_node_result = rw (b.0, b.1, t a.1) in
-    z
-
--- Each empty row's numbers are zeros.
+-- EMPTY ROWS. Each empty row's numbers are zeros.
 pub signal_zeros : signal_numbers no_signal ≡ zeros layout.signal_width
 unfolding signal_numbers
 signal_zeros = refl
@@ -98,60 +69,53 @@ pub ending_zeros : ending_numbers no_ending ≡ zeros layout.ending_width
 unfolding ending_numbers
 ending_zeros = refl
 
--- Inside a list no default is read.
-get_d_any : {A : Type 0} (xs : List A) (i : ℕ) (d e : A) → i < length xs → get_or xs i d ≡ get_or xs i e
-get_d_any [] i d e h = absurd (omega arith)
-get_d_any (x ∷ xs) zero d e h = refl
-get_d_any (x ∷ xs) (suc i) d e h = get_d_any xs i d e (omega arith)
+-- Digits joined over a list are 0 only if each row's are.
+module _ {A : Type 0} (digits : A → ℕ) where
+  abbrev joined : ℕ → List A → ℕ
+  joined d rows = fold (λ d x. bit_or d (digits x)) d rows
 
--- A loop over the rows from k to i joins their digits.
-pub record Joined {A : Type 0} (d : A) (xs : List A) (n k i digits : ℕ) : Type 0 where
-  pub long : length xs ≡ n
-  pub empty : digits ≡ 0 → (j : ℕ) → k ≤ j → j < i → get_or xs j d ≡ d
+  joined_first : (d : ℕ) (rows : List A) → joined d rows ≡ 0 → d ≡ 0
+  joined_first d [] e = e
+  joined_first d (x ∷ rows) e = (or_both d (digits x) (joined_first (bit_or d (digits x)) rows e)).0
 
-pub joined_start : {A : Type 0} {d : A} {xs : List A} {n k digits : ℕ} → length xs ≡ n → Joined d xs n k k digits
-joined_start e = record { long = e; empty = λ p j a b. absurd (omega arith) }
+  joined_at : (d : ℕ) (rows : List A) → joined d rows ≡ 0 → (i : ℕ) (none : A) → i < length rows → digits (get_or rows i none) ≡ 0
+  joined_at d [] e i none h = absurd (omega arith)
+  joined_at d (x ∷ rows) e zero none h = (or_both d (digits x) (joined_first (bit_or d (digits x)) rows e)).1
+  joined_at d (x ∷ rows) e (suc i) none h = joined_at (bit_or d (digits x)) rows e i none (omega arith)
 
-module _ {A : Type 0} {d : A} {xs : List A} {n k i digits : ℕ} (inv : Joined d xs n k i digits) where
-  pub joined_next : (e : A) {x : ℕ} → i < n → (x ≡ 0 → get_or xs i e ≡ d) → Joined d xs n k (i + 1) (bit_or digits x)
-  joined_next e {x} inside f =
-      let long = inv.long in
-      record {
-        long = long;
-        empty = λ p j a b.
-            let z = or_both digits x p in
-            split (ltb j i) (λ q. inv.empty z.0 j a (ltb-true j i q))
-            (λ q. let g = ltb-false j i q in let s : j ≡ i = omega arith in rw s (get_d_any xs i d e (omega arith) ∙ f z.1));
-      }
+  pub empty_past : (none : A) → ((x : A) → digits x ≡ 0 → x ≡ none) → (rows : List A) (k : ℕ) → k ≤ length rows → joined 0 (drop k rows) ≡ 0 → EmptyPast none rows (length rows) k
+  empty_past none only rows k low e = record { low = low; empty = λ i a b. let p : i ≡ k + (i - k) = omega arith in rw p (only (get_or rows (k + (i - k)) none) (rw get_or-drop at (joined_at 0 (drop k rows) e (i - k) none (rw length-drop (omega arith))))) }
 
-  pub joined_end : {rows : ℕ} → rows ≡ rows_of digits k n → k ≤ n → n ≤ i → EmptyPast d xs n rows
-  unfolding rows_of when◌then◌else◌
-  joined_end {rows} e low h =
-      rw e (split (eqb digits 0) (λ q. rw q (record { low = low; empty = λ j a b. inv.empty (eqb-true digits 0 q) j a (omega arith) }))
-      (λ q. rw q (record { low = omega arith; empty = λ j a b. absurd (omega arith) })))
+-- A row has room where all rows have.
+pub row_room : (w i n : ℕ) → i < n → w * i + w ≤ w * n
+row_room w i n h =
+    let more : suc i ≤ n = omega arith in
+    let s : w * suc i ≤ w * n = mul-le-mul_left w more in
+    omega (arith, rw mul-suc at s)
 
--- The loop that writes them.
-pub record Writing {A : Type 0} (f : A → List ℕ) (w : ℕ) (d : A) (xs : List A) (n at rows i : ℕ) (l₀ l : List ℕ) : Type 0 where
-  pub written : Written f w xs at i l₀ l
-  pub long : length xs ≡ n
+-- ROWS WRITTEN: up to a count, from which on all are empty.
+pub record RowsWritten {A : Type 0} (f : A → List ℕ) (d : A) (xs : List A) (n at : ℕ) (l₀ l : List ℕ) : Type 0 where
+  pub rows : ℕ
   pub past : EmptyPast d xs n rows
-  pub inside : i ≤ rows
+  pub is : l ≡ splice l₀ at (flat_map f (take rows xs))
 
-pub writing_start : {A : Type 0} {f : A → List ℕ} {w : ℕ} {d : A} {xs : List A} {n at rows : ℕ} {l : List ℕ} → ((x : A) → length (f x) ≡ w) → length xs ≡ n → EmptyPast d xs n rows → Writing f w d xs n at rows 0 l l
-writing_start wide long past = record { written = write_start wide; long = long; past = past; inside = omega arith }
+pub leading_written : {A : Type 0} {f : A → List ℕ} {d : A} {xs ys : List A} {n at : ℕ} {l₀ l : List ℕ} → length xs ≡ n → Leading d xs ys → l ≡ splice l₀ at (flat_map f ys) → RowsWritten f d xs n at l₀ l
+leading_written long h e = record { rows = h.rows; past = rw long at h.past; is = e ∙ rw h.is }
 
-module _ {A : Type 0} {f : A → List ℕ} {w : ℕ} {d : A} {xs : List A} {n at rows i : ℕ} {l₀ l : List ℕ} (inv : Writing f w d xs n at rows i l₀ l) where
-  pub writing_next : (e : A) {k : ℕ} {l' : List ℕ} → k ≡ at + w * i → i < rows → k + w ≤ length l₀ → l' ≡ splice l k (f (get_or xs i e)) → Writing f w d xs n at rows (i + 1) l₀ l'
-  writing_next e place h room is =
-      let low = inv.past.low in
-      let long = inv.long in
-      record { written = write_next inv.written e place (omega arith) room is; long = long; past = inv.past; inside = omega arith }
+-- the rows up to a count, where it is known
+pub counted_written : {A : Type 0} {f : A → List ℕ} {d : A} {xs : List A} {n k rows at : ℕ} {l₀ l : List ℕ} → k ≡ rows → EmptyPast d xs n rows → l ≡ splice l₀ at (flat_map f (take k xs)) → RowsWritten f d xs n at l₀ l
+counted_written {k = k} same past e = record { rows = k; past = rw same past; is = e }
 
-  pub writing_end : rows ≤ i → RowsWritten f d xs n at l₀ l
-  writing_end h =
-      let a = inv.inside in
-      let e : i ≡ rows = omega arith in
-      record { rows = rows; past = inv.past; is = rw e at inv.written.so_far }
+-- a part that is filled with zeros
+pub zeroed : (n : ℕ) (out part : List ℕ) → n ≤ length out → part ≡ replicate (length (take n out)) 0 → part ++ drop n out ≡ splice out 0 (zeros n)
+unfolding splice
+zeroed n out part room e = let z : 0 + n ≡ n = omega arith in rw (e, length-take-le n out room, length_zeros n, z)
+
+-- a mark as a number
+pub marked_is : (b : Bool) → bool_byte b ≡ marked b
+unfolding when◌then◌else◌
+marked_is true = refl
+marked_is false = refl
 
 -- The numbers of rows that are empty from a count on: those up to it, and zeros.
 module _ {A : Type 0} (f : A → List ℕ) (w : ℕ) (d : A) (blank : f d ≡ zeros w) where
@@ -191,12 +155,10 @@ splice_zeros : (l : List ℕ) (at n : ℕ) → at + n ≤ length l → Zeros l a
 unfolding splice
 splice_zeros l at n h z = sym (rw (length_zeros n, append_assoc) (zeros_stay at n l h z))
 
--- a loop that writes zeros one by one
-pub write_zero : {n i : ℕ} {l₀ l : List ℕ} → Written (λ (x : ℕ). x ∷ []) 1 (zeros n) 0 i l₀ l → i < n → i < length l₀ → Written (λ (x : ℕ). x ∷ []) 1 (zeros n) 0 (i + 1) l₀ (set l i 0)
-write_zero {n} {i} {l₀} {l} inv h room =
-    let z = length_zeros n in
-    let g = inv.long in
-    write_next inv 0 {k = i} (omega arith) (omega arith) (omega arith) (splice_one l i 0 (omega arith) ∙ rw (getD_replicate_same {A = ℕ} 0 n i))
+-- a part that is written, as the code has it
+pub put_splice : {A : Type 0} (at k : ℕ) (xs ys : List A) → k ≡ length ys → put_mid at k xs ys ≡ splice xs at ys
+unfolding splice
+put_splice at k xs ys e = rw (drop-drop k at xs, e) (sym (append_assoc (take at xs) ys (drop (at + length ys) xs)))
 
 -- zs over the first of the numbers us that were written there
 splice_over : (l : List ℕ) (p : ℕ) (us zs : List ℕ) → p + length us ≤ length l → length zs ≤ length us → splice (splice l p us) p zs ≡ splice l p (zs ++ drop (length zs) us)
@@ -305,11 +267,8 @@ pub counted : {d : Decision} (a : Answer) → d ≡ decision_of a → Counted d
 counted a e = rw e (counted_of a)
 
 -- THE WHOLE ANSWER: what stands in front of the record, and the record or zeros.
-abbrev front : Decision → List ℕ
-front d = answer_numbers d.answer ++ (d.note_count ∷ d.ending_count ∷ []) ++ flat_map note_numbers d.notes ++ flat_map ending_numbers d.endings
-
 module _ (d : Decision) {l₀ : List ℕ} where
-  pub front_written : {a b c e l numbers : List ℕ} → layout.answer_length ≤ length l₀ → length d.notes ≡ layout.notes → length d.endings ≡ layout.endings → a ≡ splice l₀ 0 (replicate layout.answer_length 0) → numbers ≡ answer_numbers d.answer → b ≡ splice a layout.answer_kind numbers → c ≡ splice b layout.answer_noted (d.note_count ∷ d.ending_count ∷ []) → RowsWritten note_numbers no_note d.notes layout.notes layout.answer_notes c e → RowsWritten ending_numbers no_ending d.endings layout.endings layout.answer_endings e l → WroteIn l₀ 0 (front d) layout.answer_record layout.record_length l
+  pub front_written : {a b c e l numbers : List ℕ} → layout.answer_length ≤ length l₀ → length d.notes ≡ layout.notes → length d.endings ≡ layout.endings → a ≡ splice l₀ 0 (replicate layout.answer_length 0) → numbers ≡ answer_numbers d.answer → b ≡ splice a layout.answer_kind numbers → c ≡ splice b layout.answer_noted (d.note_count ∷ d.ending_count ∷ []) → RowsWritten note_numbers no_note d.notes layout.notes layout.answer_notes c e → RowsWritten ending_numbers no_ending d.endings layout.endings layout.answer_endings e l → WroteIn l₀ 0 (front_numbers d) layout.answer_record layout.record_length l
   front_written {a} room noted ended cleared n first second third fourth =
       let w0 : WroteIn l₀ 0 [] 0 layout.answer_length a = wrote_zeros room cleared in
       let w1 = wrote_part w0 {m = layout.answer_length - layout.answer_noted} n (length_answer d.answer) refl (omega arith) first in
@@ -317,7 +276,7 @@ module _ (d : Decision) {l₀ : List ℕ} where
       let w3 = wrote_rows w2 layout.note_width {m = layout.answer_length - layout.answer_endings} length_note note_zeros noted (omega arith) (omega arith) third in
       wrote_rows w3 layout.ending_width {m = layout.record_length} length_ending ending_zeros ended (omega arith) (omega arith) fourth
 
-  module _ {l : List ℕ} (inv : WroteIn l₀ 0 (front d) layout.answer_record layout.record_length l) where
+  module _ {l : List ℕ} (inv : WroteIn l₀ 0 (front_numbers d) layout.answer_record layout.record_length l) where
     pub refusal_written : is_refused d.answer ≡ true → l ≡ splice l₀ 0 (decision_numbers d)
     unfolding decision_numbers
     refusal_written e = inv.so_far ∙ rw (state_refused d.answer d.state e)

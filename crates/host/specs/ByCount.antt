@@ -13,9 +13,9 @@ use Rattle.host.specs.declared.read.Used.{Used}
 use Rattle.host.specs.Layout.{store, nodes, signal_place, visits_place, streak_place, result_place, record_visits, record_streaks, record_results, record_length}
 use Rattle.host.specs.Read.{at, signal_of, visits_of, streak_of, result_of, record_of}
 
--- The numbers from a place to an end are zero, as a test and as a fact.
-abbrev pub blank : List ℕ → (start end : ℕ) → Bool
-blank numbers start end = every (λ number. eqb number 0) (span (at numbers) start end)
+-- All numbers are zero, as a test; and those from a place to an end, as a fact.
+abbrev pub blank : List ℕ → Bool
+blank numbers = every (λ number. eqb number 0) numbers
 
 abbrev pub Zeros : List ℕ → (start end : ℕ) → Type 0
 Zeros numbers start end = (place : ℕ) → start ≤ place → place < end → at numbers place ≡ 0

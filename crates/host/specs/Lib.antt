@@ -7,4 +7,5 @@ pub mod Fits
 pub mod ReadAnswer
 pub mod ByCount
 pub mod WriteRows
+pub mod RowLaws
 pub mod Receipt

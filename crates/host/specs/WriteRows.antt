@@ -1,31 +1,54 @@
 -- Rows written by count, over zeros: rows that are left out are empty, so that their numbers are the zeros that stand there.
-use Rattle.std.specs.Prelude.{◌≡◌, Bool, true, false, get_or, eqb}
-use mathlib.Core.List.{List, flat_map}
+use Rattle.std.specs.Prelude.{◌≡◌, Bool, true, false, get_or, length, bit_or}
+use mathlib.Core.List.{List, [], ◌∷◌, ◌++◌, flat_map}
 use Prim.Native.Nat.{ℕ, ◌≤◌, ◌<◌, min}
 use Rattle.std.proofs.Math.ListN.{take}
-use Rattle.laws.specs.Bool.{when◌then◌else◌}
-use Rattle.laws.specs.Splice.{splice}
+use Rattle.model.specs.declared.Output.{Output}
+use Rattle.model.specs.declared.BufferedSignal.{BufferedSignal}
+use Rattle.model.specs.declared.Visits.{Visits}
+use Rattle.model.specs.declared.Streak.{Streak}
+use Rattle.model.specs.declared.NodeResult.{NodeResult}
 use Rattle.model.specs.declared.answer.Answer as code
 use Rattle.model.specs.Step.{no_note, no_ending}
 use Rattle.kernel.specs.declared.Decision.{Decision}
+use Rattle.model.specs.Answers.{answer_numbers}
 use Rattle.host.specs.Layout as layout
+use Rattle.host.specs.Write.{note_numbers, ending_numbers}
 
 -- From a count on every row of an array of n is the empty one.
 pub record EmptyPast {A : Type 0} (d : A) (xs : List A) (n rows : ℕ) : Type 0 where
   pub low : rows ≤ n
   pub empty : (i : ℕ) → rows ≤ i → i < n → get_or xs i d ≡ d
 
--- The count of rows to write, from the digits of those past it, joined.
-unfoldable pub rows_of : (digits count all : ℕ) → ℕ
-rows_of digits count all = when eqb digits 0 then count else all
-
--- ROWS WRITTEN: up to a count, from which on all are empty.
-pub record RowsWritten {A : Type 0} (f : A → List ℕ) (d : A) (xs : List A) (n at : ℕ) (l₀ l : List ℕ) : Type 0 where
+-- The first rows: up to a count, from which on all are empty.
+pub record Leading {A : Type 0} (d : A) (all first : List A) : Type 0 where
   pub rows : ℕ
-  pub past : EmptyPast d xs n rows
-  pub is : l ≡ splice l₀ at (flat_map f (take rows xs))
+  pub past : EmptyPast d all (length all) rows
+  pub is : first ≡ take rows all
 
--- THE ANSWER. Whether it is a refusal, which has no record.
+-- A row's digits, joined.
+unfoldable pub signal_digits : BufferedSignal → ℕ
+signal_digits signal = bit_or (bit_or (bit_or (bit_or signal.sequence signal.event_id) signal.signal) signal.outcome) signal.«data»
+
+unfoldable pub visits_digits : Visits → ℕ
+visits_digits visits = visits.count
+
+unfoldable pub streak_digits : Streak → ℕ
+streak_digits streak = bit_or streak.outcome streak.count
+
+abbrev pub output_digits : Output → ℕ
+output_digits Output.Nothing = 0
+output_digits (Output.Handle handle) = 1
+output_digits (Output.Error error) = 1
+
+unfoldable pub result_digits : NodeResult → ℕ
+result_digits result = bit_or (bit_or result.visit result.outcome) (output_digits result.output)
+
+-- THE ANSWER. What stands before its record.
+abbrev pub front_numbers : Decision → List ℕ
+front_numbers d = answer_numbers d.answer ++ (d.note_count ∷ d.ending_count ∷ []) ++ flat_map note_numbers d.notes ++ flat_map ending_numbers d.endings
+
+-- Whether it is a refusal, which has no record.
 abbrev pub is_refused : code.Answer → Bool
 is_refused (code.Answer.Next order microsteps) = false
 is_refused (code.Answer.Wants node field from) = false

@@ -3,16 +3,17 @@
 
 pub mod layout;
 pub mod read;
+mod rows;
 pub mod write;
 
-ghost use Rattle.std.specs.Prelude.{◌≡◌, ◌≤◌, length};
-ghost use Rattle.host.specs.Layout.{layout_version, record_length, call_length, store, nodes, written};
-ghost use Rattle.host.specs.Read.{has_record, record_of};
+ghost use Rattle.std.specs.Prelude.{◌≡◌, length};
 ghost use Rattle.kernel.specs.Call.{given_record};
+ghost use Rattle.host.specs.Layout.{layout_version, written};
+ghost use Rattle.host.specs.Read.{has_record, record_of};
 ghost use Rattle.host.specs.ByCount.{UsedRows};
 ghost use Rattle.host.specs.Write.{decision_numbers};
 ghost use Rattle.host.specs.Host.{receipt, decided, answered, Full, verdict_receipt, verdict_numbers, judged};
-ghost use Rattle.host.specs.Receipt.{by_lengths, by_numbers};
+ghost use Rattle.host.specs.Receipt.{fault_number, outcome_number, by_numbers};
 
 use crate::read::{Used, call_fits, read_call, read_record, record_fits, used_rows};
 use crate::write::write_decision;
@@ -21,6 +22,33 @@ use model::State;
 use workflow::capped;
 use workflow::layout::{NODE_COUNT, NUMBERS};
 
+// Why what is lent gets no answer.
+#[derive(Clone, Copy, PartialEq, Eq, Debug)]
+enum Fault {
+    ShortBuffer,
+    BadCall,
+    BadRecord,
+    SheetLength,
+    CallLength,
+    RecordLength,
+}
+
+impl Fault {
+    // The number that a function returns.
+    fn number(self) -> u32
+        ensures { result ≡ fault_number self }
+    {
+        match self {
+            Fault::ShortBuffer => layout::SHORT_BUFFER,
+            Fault::BadCall => layout::BAD_CALL,
+            Fault::BadRecord => layout::BAD_RECORD,
+            Fault::SheetLength => layout::BAD_SHEET_LENGTH,
+            Fault::CallLength => layout::BAD_CALL_LENGTH,
+            Fault::RecordLength => layout::BAD_RECORD_LENGTH,
+        }
+    }
+}
+
 // The version of the layout of sheet, call, record, answer and verdict.
 pub fn kuxhoveza_layout_version() -> u32
     ensures { result ≡ layout_version }
@@ -28,51 +56,69 @@ pub fn kuxhoveza_layout_version() -> u32
     layout::LAYOUT_VERSION
 }
 
-// What the lengths of the lent arrays say, before a number is read.
-fn by_lengths(sheet: usize, call: usize, given: usize, room: usize) -> u32
-    ensures { result ≡ by_lengths sheet call given room }
-{
-    if sheet != NUMBERS {
-        return layout::BAD_SHEET_LENGTH;
-    }
-    if call != layout::CALL {
-        return layout::BAD_CALL_LENGTH;
-    }
-    if given != layout::RECORD {
-        return layout::BAD_RECORD_LENGTH;
-    }
-    if room < layout::ANSWER {
-        return layout::SHORT_BUFFER;
-    }
-    layout::WRITTEN
-}
-
 // What the numbers say. The record is looked at only where the call says that one goes with it.
-fn by_numbers(call: &[u64], given: &[u64], used: Used) -> u32
-    requires { (length call.now ≡ call_length) × (length given.now ≡ record_length) × UsedRows (has_record call.now) given.now used }
+fn by_numbers(
+    call: &[u64; layout::CALL],
+    given: &[u64; layout::RECORD],
+    used: Used,
+) -> Result<(), Fault>
+    requires { UsedRows (has_record call.now) given.now used }
     ensures { result ≡ by_numbers call.now given.now }
 {
-    if call_fits(call) {
-        if call[layout::CALL_HAS_RECORD] == 1 {
-            if record_fits(given, used) {
-                return layout::WRITTEN;
-            }
-            return layout::BAD_RECORD;
-        }
-        return layout::WRITTEN;
+    if !call_fits(call) {
+        return Err(Fault::BadCall);
     }
-    layout::BAD_CALL
+    if call[layout::CALL_HAS_RECORD] == 1 && !record_fits(given, used) {
+        return Err(Fault::BadRecord);
+    }
+    Ok(())
 }
 
 // The record that goes with a call, if one does.
-fn read_given(given: &[u64], has_record: bool, used: Used) -> Option<State>
-    requires { (length given.now ≡ record_length) × (used.signals ≤ store) × (used.nodes ≤ nodes) × UsedRows has_record given.now used }
+fn read_given(given: &[u64; layout::RECORD], has_record: bool, used: Used) -> Option<State>
+    requires { UsedRows has_record given.now used }
     ensures { result ≡ given_record has_record (record_of given.now) }
 {
     if has_record {
         return Some(read_record(given, used));
     }
     None
+}
+
+// One call: the lengths are tested before a number is read.
+fn answer_call(
+    sheet: &[u32; NUMBERS],
+    sheet_len: usize,
+    call: &[u64],
+    given: &[u64],
+    answer: &mut [u64],
+) -> Result<(), Fault>
+    ensures value { outcome_number result ≡ receipt sheet_len call.now given.now (length answer.old) }
+    ensures answer_after { answer.new ≡ answered sheet.now sheet_len call.now given.now answer.old }
+    ensures full { outcome_number result ≡ written → Full (decision_numbers (decided sheet.now call.now given.now)) }
+{
+    if sheet_len != NUMBERS {
+        return Err(Fault::SheetLength);
+    }
+    let Some(call) = call.as_array() else {
+        return Err(Fault::CallLength);
+    };
+    let Some(given) = given.as_array() else {
+        return Err(Fault::RecordLength);
+    };
+    if answer.len() < layout::ANSWER {
+        return Err(Fault::ShortBuffer);
+    }
+    let has_record = call[layout::CALL_HAS_RECORD] == 1;
+    let nodes = capped(sheet[NODE_COUNT], layout::NODES);
+    let used = used_rows(given, has_record, nodes);
+    by_numbers(call, given, used)?;
+    write_decision(
+        answer,
+        kernel::transition(sheet, read_given(given, has_record, used), read_call(call)),
+        nodes,
+    );
+    Ok(())
 }
 
 // One call. Each array comes with its length. The answer's numbers are written to the buffer's beginning where the result
@@ -88,22 +134,10 @@ pub fn kuxhoveza_transition(
     ensures answer_after { answer.new ≡ answered sheet.now sheet_len call.now given.now answer.old }
     ensures full { result ≡ written → Full (decision_numbers (decided sheet.now call.now given.now)) }
 {
-    let lengths = by_lengths(sheet_len, call.len(), given.len(), answer.len());
-    if lengths != layout::WRITTEN {
-        return lengths;
+    match answer_call(sheet, sheet_len, call, given, answer) {
+        Ok(()) => layout::WRITTEN,
+        Err(fault) => fault.number(),
     }
-    let has_record = call[layout::CALL_HAS_RECORD] == 1;
-    let nodes = capped(sheet[NODE_COUNT], layout::NODES);
-    let used = used_rows(given, has_record, nodes);
-    let numbers = by_numbers(call, given, used);
-    if numbers == layout::WRITTEN {
-        write_decision(
-            answer,
-            kernel::transition(sheet, read_given(given, has_record, used), read_call(call)),
-            nodes,
-        );
-    }
-    numbers
 }
 
 fn verdict_numbers(verdict: Result<(), Broken>) -> [u32; layout::VERDICT]
@@ -129,10 +163,10 @@ pub fn kuxhoveza_verdict(
     ensures out_after { out.new ≡ judged sheet.now sheet_len (record { nodes = nodes; visits = visits; activations = activations; attempts = attempts }) out.old }
 {
     if sheet_len != NUMBERS {
-        return layout::BAD_SHEET_LENGTH;
+        return Fault::SheetLength.number();
     }
     if out.len() < layout::VERDICT {
-        return layout::SHORT_BUFFER;
+        return Fault::ShortBuffer.number();
     }
     let verdict = graph::validate(
         sheet,
@@ -143,8 +177,6 @@ pub fn kuxhoveza_verdict(
             attempts,
         },
     );
-    let numbers = verdict_numbers(verdict);
-    out[layout::VERDICT_NUMBER] = numbers[layout::VERDICT_NUMBER];
-    out[layout::VERDICT_ITEM] = numbers[layout::VERDICT_ITEM];
+    out[..layout::VERDICT].copy_from_slice(&verdict_numbers(verdict));
     layout::WRITTEN
 }

@@ -1,14 +1,13 @@
 // A run record and a call from their numbers (docs/NUMBERS.md). A number that its field can't hold is read modulo 2^32.
+#![tactic(auto, unfolding(crate::specs::Read::narrow, crate::specs::Read::error_of, crate::specs::Read::position_of, crate::specs::Read::invocation_of, crate::specs::Read::run_result_of, crate::specs::Read::event_of, crate::specs::Read::mapping_of, crate::specs::Read::ceilings_of, crate::specs::Read::limits_of, crate::specs::Read::call_of))]
+
 ghost use Rattle.std.specs.Prelude.{◌≡◌, ◌≤◌, ◌<◌, length};
-ghost use Rattle.laws.specs.Rows.{span};
-ghost use Rattle.laws.specs.Every.{below};
-ghost use Rattle.laws.specs.Listing.{padded};
-ghost use Rattle.model.specs.Record.{no_signal, no_visits, no_streak, no_node_result};
-ghost use Rattle.host.specs.Layout.{store, nodes, mappings, record_length, call_length};
-ghost use Rattle.host.specs.Read.{at, narrow, error_of, output_of, kept_of, signal_of, visits_of, streak_of, result_of, position_of, invocation_of, run_result_of, event_of, mapping_of, ceilings_of, limits_of, call_of, all_fit, limit_fields, event_fields, mapping_fields, head_fields, error_fits, output_fits, kept_fits, head_fits, signal_fits, node_fits, record_fits, call_fits};
+ghost use Rattle.host.specs.Layout.{store, nodes, mappings};
+ghost use Rattle.host.specs.Read.{at, narrow, error_of, output_of, kept_of, position_of, invocation_of, run_result_of, event_of, mapping_of, ceilings_of, limits_of, call_of, all_fit, limit_fields, event_fields, mapping_fields, head_fields, error_fits, output_fits, kept_fits, head_fits, signal_fits, node_fits, record_fits, call_fits};
 ghost use Rattle.host.specs.ByCount.{blank, SignalsPast, NodesPast, Past, UsedRows, record_rows};
 
 use crate::layout;
+use crate::rows::read_rows;
 use graph::Ceilings;
 use kernel::{Call, Limits};
 use model::event::{Event, Mapping, Mappings};
@@ -34,7 +33,7 @@ fn narrow(x: u64) -> u32
 }
 
 // The number at a place.
-fn number_at(xs: &[u64], place: usize) -> u32
+pub(crate) fn number_at(xs: &[u64], place: usize) -> u32
     requires { place < length xs.now }
     ensures { result ≡ narrow (at xs.now place) }
 {
@@ -51,7 +50,7 @@ fn error(code: u64, node: u64, detail: u64) -> ErrorInfo
     }
 }
 
-fn output(tag: u64, a: u64, b: u64, c: u64) -> Output
+pub(crate) fn output(tag: u64, a: u64, b: u64, c: u64) -> Output
     ensures { result ≡ output_of tag a b c }
 {
     if tag == 0 {
@@ -72,118 +71,6 @@ fn kept(tag: u64, a: u64, b: u64, c: u64) -> Option<ErrorInfo>
     Some(error(a, b, c))
 }
 
-// Rows.
-
-fn signal(xs: &[u64], i: usize) -> BufferedSignal
-    requires xs_len { length xs.now ≡ record_length }
-    requires i_lt_store { i < store }
-    ensures { result ≡ signal_of xs.now i }
-{
-    let k = layout::RECORD_SIGNALS + layout::SIGNAL_WIDTH * i;
-    BufferedSignal {
-        sequence: xs[k],
-        event_id: number_at(xs, k + 1),
-        signal: number_at(xs, k + 2),
-        outcome: number_at(xs, k + 3),
-        data: number_at(xs, k + 4),
-    }
-}
-
-fn visits_of(xs: &[u64], i: usize) -> Visits
-    requires xs_len { length xs.now ≡ record_length }
-    requires i_lt_nodes { i < nodes }
-    ensures { result ≡ visits_of xs.now i }
-{
-    Visits {
-        count: number_at(xs, layout::RECORD_VISITS + i),
-    }
-}
-
-fn streak(xs: &[u64], i: usize) -> Streak
-    requires xs_len { length xs.now ≡ record_length }
-    requires i_lt_nodes { i < nodes }
-    ensures { result ≡ streak_of xs.now i }
-{
-    let k = layout::RECORD_STREAKS + layout::STREAK_WIDTH * i;
-    Streak {
-        outcome: number_at(xs, k),
-        count: number_at(xs, k + 1),
-    }
-}
-
-fn result(xs: &[u64], i: usize) -> NodeResult
-    requires xs_len { length xs.now ≡ record_length }
-    requires i_lt_nodes { i < nodes }
-    ensures { result ≡ result_of xs.now i }
-{
-    let k = layout::RECORD_RESULTS + layout::RESULT_WIDTH * i;
-    let output = output(xs[k + 2], xs[k + 3], xs[k + 4], xs[k + 5]);
-    NodeResult {
-        visit: number_at(xs, k),
-        outcome: number_at(xs, k + 1),
-        output,
-    }
-}
-
-fn signals(xs: &[u64], rows: usize) -> [BufferedSignal; layout::STORE]
-    requires { (length xs.now ≡ record_length) × (rows ≤ store) }
-    ensures { result ≡ padded store no_signal (span (signal_of xs.now) 0 rows) }
-{
-    let mut a = [BufferedSignal::none(); layout::STORE];
-    let mut i: usize = 0;
-    while i < rows {
-        a[i] = signal(xs, i);
-        i += 1;
-    }
-    a
-}
-
-fn visits(xs: &[u64], rows: usize) -> [Visits; layout::NODES]
-    requires { (length xs.now ≡ record_length) × (rows ≤ nodes) }
-    ensures { result ≡ padded nodes no_visits (span (visits_of xs.now) 0 rows) }
-{
-    let mut a = [Visits { count: 0 }; layout::NODES];
-    let mut i: usize = 0;
-    while i < rows {
-        a[i] = visits_of(xs, i);
-        i += 1;
-    }
-    a
-}
-
-fn streaks(xs: &[u64], rows: usize) -> [Streak; layout::NODES]
-    requires { (length xs.now ≡ record_length) × (rows ≤ nodes) }
-    ensures { result ≡ padded nodes no_streak (span (streak_of xs.now) 0 rows) }
-{
-    let mut a = [Streak {
-        outcome: 0,
-        count: 0,
-    }; layout::NODES];
-    let mut i: usize = 0;
-    while i < rows {
-        a[i] = streak(xs, i);
-        i += 1;
-    }
-    a
-}
-
-fn results(xs: &[u64], rows: usize) -> [NodeResult; layout::NODES]
-    requires { (length xs.now ≡ record_length) × (rows ≤ nodes) }
-    ensures { result ≡ padded nodes no_node_result (span (result_of xs.now) 0 rows) }
-{
-    let mut a = [NodeResult {
-        visit: 0,
-        outcome: 0,
-        output: Output::Nothing,
-    }; layout::NODES];
-    let mut i: usize = 0;
-    while i < rows {
-        a[i] = result(xs, i);
-        i += 1;
-    }
-    a
-}
-
 // How many rows are read.
 
 #[derive(Clone, Copy)]
@@ -192,55 +79,32 @@ pub struct Used {
     pub nodes: usize,
 }
 
-// The numbers from a place to an end are zero. One pass without a test, so that the compiler makes it a vector loop.
-fn blank(xs: &[u64], start: usize, end: usize) -> bool
-    requires { end ≤ length xs.now }
-    ensures { result ≡ blank xs.now start end }
+// All numbers are zero. One pass without a test, so that the compiler makes it a vector loop.
+fn blank(xs: &[u64]) -> bool
+    ensures { result ≡ blank xs.now }
 {
-    let mut dirt: u64 = 0;
-    let mut i = start;
-    while i < end {
-        dirt = dirt | xs[i];
-        i += 1;
-    }
-    dirt == 0
+    xs.iter().fold(0, |digits, x| digits | *x) == 0
 }
 
 // By the record's count, where all that follows is zero; else all.
-fn signal_rows(xs: &[u64]) -> usize
-    requires { length xs.now ≡ record_length }
+fn signal_rows(xs: &[u64; layout::RECORD]) -> usize
     ensures { SignalsPast xs.now result }
 {
-    let stored = xs[layout::RECORD_STORED];
-    if stored < (layout::STORE as u64) {
-        let rows = stored as usize;
-        if blank(
-            xs,
-            layout::RECORD_SIGNALS + layout::SIGNAL_WIDTH * rows,
-            layout::RECORD_VISITS,
-        ) {
-            return rows;
-        }
+    let rows = xs[layout::RECORD_STORED].min(layout::STORE as u64) as usize;
+    if blank(&xs[layout::RECORD_SIGNALS + layout::SIGNAL_WIDTH * rows..layout::RECORD_VISITS]) {
+        return rows;
     }
     layout::STORE
 }
 
 // By the sheet's count.
-fn node_rows(xs: &[u64], rows: usize) -> usize
-    requires { (length xs.now ≡ record_length) × (rows ≤ nodes) }
+fn node_rows(xs: &[u64; layout::RECORD], rows: usize) -> usize
+    requires { rows ≤ nodes }
     ensures { NodesPast xs.now result }
 {
-    if blank(xs, layout::RECORD_VISITS + rows, layout::RECORD_STREAKS)
-        & blank(
-            xs,
-            layout::RECORD_STREAKS + layout::STREAK_WIDTH * rows,
-            layout::RECORD_RESULTS,
-        )
-        & blank(
-            xs,
-            layout::RECORD_RESULTS + layout::RESULT_WIDTH * rows,
-            layout::RECORD,
-        )
+    if blank(&xs[layout::RECORD_VISITS + rows..layout::RECORD_STREAKS])
+        & blank(&xs[layout::RECORD_STREAKS + layout::STREAK_WIDTH * rows..layout::RECORD_RESULTS])
+        & blank(&xs[layout::RECORD_RESULTS + layout::RESULT_WIDTH * rows..])
     {
         return rows;
     }
@@ -248,8 +112,8 @@ fn node_rows(xs: &[u64], rows: usize) -> usize
 }
 
 // None of a record that goes with no call.
-pub fn used_rows(xs: &[u64], has_record: bool, rows: usize) -> Used
-    requires { (length xs.now ≡ record_length) × (rows ≤ nodes) }
+pub fn used_rows(xs: &[u64; layout::RECORD], has_record: bool, rows: usize) -> Used
+    requires { rows ≤ nodes }
     ensures { UsedRows has_record xs.now result }
 {
     if has_record {
@@ -266,8 +130,7 @@ pub fn used_rows(xs: &[u64], has_record: bool, rows: usize) -> Used
 
 // The run record.
 
-fn position(xs: &[u64]) -> Position
-    requires { length xs.now ≡ record_length }
+fn position(xs: &[u64; layout::RECORD]) -> Position
     ensures { result ≡ position_of xs.now }
 {
     Position {
@@ -276,8 +139,7 @@ fn position(xs: &[u64]) -> Position
     }
 }
 
-fn invocation(xs: &[u64]) -> InvocationState
-    requires { length xs.now ≡ record_length }
+fn invocation(xs: &[u64; layout::RECORD]) -> InvocationState
     ensures { result ≡ invocation_of xs.now }
 {
     let error = kept(
@@ -297,8 +159,7 @@ fn invocation(xs: &[u64]) -> InvocationState
     }
 }
 
-fn run_result(xs: &[u64]) -> RunResult
-    requires { length xs.now ≡ record_length }
+fn run_result(xs: &[u64; layout::RECORD]) -> RunResult
     ensures { result ≡ run_result_of xs.now }
 {
     let output = output(
@@ -310,17 +171,25 @@ fn run_result(xs: &[u64]) -> RunResult
     RunResult { output }
 }
 
-pub fn read_record(xs: &[u64], used: Used) -> State
-    requires { (length xs.now ≡ record_length) × (used.signals ≤ store) × (used.nodes ≤ nodes) }
+pub fn read_record(xs: &[u64; layout::RECORD], used: Used) -> State
+    requires { (used.signals ≤ store) × (used.nodes ≤ nodes) }
     ensures { result ≡ record_rows used.signals used.nodes xs.now }
 {
-    let signals = signals(xs, used.signals);
-    let visits = visits(xs, used.nodes);
-    let streaks = streaks(xs, used.nodes);
-    let results = results(xs, used.nodes);
-    let position = position(xs);
-    let invocation = invocation(xs);
-    let result = run_result(xs);
+    let mut signals = [BufferedSignal::none(); layout::STORE];
+    let mut visits = [Visits { count: 0 }; layout::NODES];
+    let mut streaks = [Streak {
+        outcome: 0,
+        count: 0,
+    }; layout::NODES];
+    let mut results = [NodeResult {
+        visit: 0,
+        outcome: 0,
+        output: Output::Nothing,
+    }; layout::NODES];
+    read_rows(&mut signals[..used.signals], xs);
+    read_rows(&mut visits[..used.nodes], xs);
+    read_rows(&mut streaks[..used.nodes], xs);
+    read_rows(&mut results[..used.nodes], xs);
     State {
         signals,
         visits,
@@ -332,16 +201,15 @@ pub fn read_record(xs: &[u64], used: Used) -> State
         status: number_at(xs, layout::RECORD_STATUS),
         input: number_at(xs, layout::RECORD_INPUT),
         activations: number_at(xs, layout::RECORD_ACTIVATIONS),
-        position,
-        invocation,
-        result,
+        position: position(xs),
+        invocation: invocation(xs),
+        result: run_result(xs),
     }
 }
 
 // The call.
 
-fn event(c: &[u64]) -> Event
-    requires { length c.now ≡ call_length }
+fn event(c: &[u64; layout::CALL]) -> Event
     ensures { result ≡ event_of c.now }
 {
     Event {
@@ -367,9 +235,8 @@ fn event(c: &[u64]) -> Event
     }
 }
 
-fn mapping(c: &[u64], i: usize) -> Mapping
-    requires c_len { length c.now ≡ call_length }
-    requires i_lt_mappings { i < mappings }
+fn mapping(c: &[u64; layout::CALL], i: usize) -> Mapping
+    requires { i < mappings }
     ensures { result ≡ mapping_of c.now i }
 {
     let k = layout::CALL_MAPPINGS + layout::MAPPING_WIDTH * i;
@@ -382,8 +249,7 @@ fn mapping(c: &[u64], i: usize) -> Mapping
     }
 }
 
-fn ceilings(c: &[u64]) -> Ceilings
-    requires { length c.now ≡ call_length }
+fn ceilings(c: &[u64; layout::CALL]) -> Ceilings
     ensures { result ≡ ceilings_of c.now }
 {
     Ceilings {
@@ -394,8 +260,7 @@ fn ceilings(c: &[u64]) -> Ceilings
     }
 }
 
-fn limits(c: &[u64]) -> Limits
-    requires { length c.now ≡ call_length }
+fn limits(c: &[u64; layout::CALL]) -> Limits
     ensures { result ≡ limits_of c.now }
 {
     Limits {
@@ -405,21 +270,15 @@ fn limits(c: &[u64]) -> Limits
     }
 }
 
-pub fn read_call(c: &[u64]) -> Call
-    requires { length c.now ≡ call_length }
+pub fn read_call(c: &[u64; layout::CALL]) -> Call
     ensures { result ≡ call_of c.now }
 {
-    let ceilings = ceilings(c);
-    let limits = limits(c);
-    let event = event(c);
-    let first = mapping(c, 0);
-    let second = mapping(c, 1);
     Call {
-        ceilings,
-        limits,
-        event,
+        ceilings: ceilings(c),
+        limits: limits(c),
+        event: event(c),
         mappings: Mappings {
-            answers: [first, second],
+            answers: [mapping(c, 0), mapping(c, 1)],
             count: number_at(c, layout::CALL_ANSWERED),
         },
     }
@@ -455,8 +314,7 @@ fn kept_fits(tag: u64, a: u64, b: u64, c: u64) -> bool
 }
 
 // The single numbers of a record.
-fn scalars_fit(xs: &[u64]) -> bool
-    requires { length xs.now ≡ record_length }
+fn scalars_fit(xs: &[u64; layout::RECORD]) -> bool
     ensures { result ≡ all_fit xs.now head_fields }
 {
     (xs[layout::RECORD_STATUS] < NUMBER)
@@ -474,8 +332,7 @@ fn scalars_fit(xs: &[u64]) -> bool
 }
 
 // A record up to its rows.
-fn head_fits(xs: &[u64]) -> bool
-    requires { length xs.now ≡ record_length }
+fn head_fits(xs: &[u64; layout::RECORD]) -> bool
     ensures { result ≡ head_fits xs.now }
 {
     scalars_fit(xs)
@@ -493,9 +350,8 @@ fn head_fits(xs: &[u64]) -> bool
         )
 }
 
-fn signal_fits(xs: &[u64], i: usize) -> bool
-    requires xs_len { length xs.now ≡ record_length }
-    requires i_lt_store { i < store }
+fn signal_fits(xs: &[u64; layout::RECORD], i: usize) -> bool
+    requires { i < store }
     ensures { result ≡ signal_fits xs.now i }
 {
     let k = layout::RECORD_SIGNALS + layout::SIGNAL_WIDTH * i;
@@ -503,9 +359,8 @@ fn signal_fits(xs: &[u64], i: usize) -> bool
 }
 
 // The numbers of one node: its visits, its streak and its result.
-fn node_fits(xs: &[u64], n: usize) -> bool
-    requires xs_len { length xs.now ≡ record_length }
-    requires n_lt_nodes { n < nodes }
+fn node_fits(xs: &[u64; layout::RECORD], n: usize) -> bool
+    requires { n < nodes }
     ensures { result ≡ node_fits xs.now n }
 {
     let v = layout::RECORD_VISITS + n;
@@ -519,51 +374,25 @@ fn node_fits(xs: &[u64], n: usize) -> bool
     plain & output_fits(xs[k + 2], xs[k + 3], xs[k + 4], xs[k + 5])
 }
 
-fn signals_fit(xs: &[u64], rows: usize) -> bool
-    requires { (length xs.now ≡ record_length) × (rows ≤ store) }
-    ensures { result ≡ below rows (signal_fits xs.now) }
-{
-    let mut fit = true;
-    let mut i: usize = 0;
-    while i < rows {
-        fit = fit & signal_fits(xs, i);
-        i += 1;
-    }
-    fit
-}
-
-fn nodes_fit(xs: &[u64], rows: usize) -> bool
-    requires { (length xs.now ≡ record_length) × (rows ≤ nodes) }
-    ensures { result ≡ below rows (node_fits xs.now) }
-{
-    let mut fit = true;
-    let mut i: usize = 0;
-    while i < rows {
-        fit = fit & node_fits(xs, i);
-        i += 1;
-    }
-    fit
-}
-
 // Every number of a record is one that its field can hold.
-pub fn record_fits(xs: &[u64], used: Used) -> bool
-    requires { (length xs.now ≡ record_length) × Past xs.now used }
+pub fn record_fits(xs: &[u64; layout::RECORD], used: Used) -> bool
+    requires { Past xs.now used }
     ensures { result ≡ record_fits xs.now }
 {
-    head_fits(xs) & signals_fit(xs, used.signals) & nodes_fit(xs, used.nodes)
+    head_fits(xs)
+        & (0..used.signals).all(|i| signal_fits(xs, i))
+        & (0..used.nodes).all(|n| node_fits(xs, n))
 }
 
 // A record by itself.
-pub fn run_fits(xs: &[u64]) -> bool
-    requires { length xs.now ≡ record_length }
+pub fn run_fits(xs: &[u64; layout::RECORD]) -> bool
     ensures { result ≡ record_fits xs.now }
 {
     let used = used_rows(xs, true, layout::NODES);
     record_fits(xs, used)
 }
 
-fn limits_fit(c: &[u64]) -> bool
-    requires { length c.now ≡ call_length }
+fn limits_fit(c: &[u64; layout::CALL]) -> bool
     ensures { result ≡ all_fit c.now limit_fields }
 {
     (c[layout::CALL_CEILING_NODES] < NUMBER)
@@ -576,8 +405,7 @@ fn limits_fit(c: &[u64]) -> bool
         & (c[layout::CALL_HAS_RECORD] < MARK)
 }
 
-fn event_fits(c: &[u64]) -> bool
-    requires { length c.now ≡ call_length }
+fn event_fits(c: &[u64; layout::CALL]) -> bool
     ensures { result ≡ all_fit c.now event_fields }
 {
     (c[layout::CALL_EVENT_ID] < NUMBER)
@@ -599,9 +427,8 @@ fn event_fits(c: &[u64]) -> bool
         & (c[layout::CALL_ANSWERED] < NUMBER)
 }
 
-fn mapping_fits(c: &[u64], i: usize) -> bool
-    requires c_len { length c.now ≡ call_length }
-    requires i_lt_mappings { i < mappings }
+fn mapping_fits(c: &[u64; layout::CALL], i: usize) -> bool
+    requires { i < mappings }
     ensures { result ≡ all_fit c.now (mapping_fields i) }
 {
     let k = layout::CALL_MAPPINGS + layout::MAPPING_WIDTH * i;
@@ -613,8 +440,7 @@ fn mapping_fits(c: &[u64], i: usize) -> bool
 }
 
 // Every number of a call is one that its field can hold.
-pub fn call_fits(c: &[u64]) -> bool
-    requires { length c.now ≡ call_length }
+pub fn call_fits(c: &[u64; layout::CALL]) -> bool
     ensures { result ≡ call_fits c.now }
 {
     limits_fit(c) & event_fits(c) & mapping_fits(c, 0) & mapping_fits(c, 1)

@@ -1,12 +1,11 @@
-use native.Mathlib.Omega.{arith}
-use Rattle.laws.specs.Zeros.{dirt_start, dirt_more, dirt_end}
+use Rattle.std.proofs.Common.{rules}
+use Rattle.std.specs.Prelude.{bit_or}
+use Rattle.std.proofs.lemmas.Iterator.Consumers.{fold_from_yields_List}
+use Rattle.std.proofs.lemmas.Iterator.{YieldsList-from_slice}
+use Rattle.host.proofs.ReadLaws.{or_zeros}
 use Rattle.host.proofs.read.blank.Goals as goal
 
-pub loop-i-init : goal.loop-i-init
-loop-i-init c = dirt_start
-
-pub loop-i-preserved : goal.loop-i-preserved
-loop-i-preserved c = dirt_more c.loop-i.invariant (omega arith)
-
 pub returns : goal.returns
-returns c = dirt_end c.loop-i.invariant (omega arith)
+returns c =
+    let xs = c.args.xs.now in
+    rw (fold_from_yields_List _ bit_or 0 c.fold.result c.fold.ensures.ran (YieldsList-from_slice xs cc) (λ a x b q k. search rules)) (or_zeros xs)

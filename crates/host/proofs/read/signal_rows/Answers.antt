@@ -1,5 +1,4 @@
-use mathlib.Core.Path.{sym, ◌∙◌}
-use native.Mathlib.Omega.{arith}
+use Rattle.std.proofs.Common.{sym, ◌∙◌, arith}
 use Rattle.host.proofs.ByCountLaws.{blank_zeros}
 use Rattle.host.proofs.read.signal_rows.Goals as goal
 

@@ -10,5 +10,5 @@ returns c =
     let w1 = wrote_first c.scalars-first.ensures (length_scalars _) c.write.ensures in
     let w2 = wrote_next w1 c.kept_numbers-kept.ensures (length_kept _) (omega arith) (omega (arith, c.requires)) c.write-2.ensures in
     let w3 = wrote_next w2 c.numbers-ended.ensures (length_output _) (omega arith) (omega (arith, c.requires)) c.write-3.ensures in
-    let w4 = wrote_next w3 refl refl (omega arith) (omega (arith, c.requires)) c.write-4.ensures in
+    let w4 = wrote_next w3 (rw c.from.ensures) refl (omega arith) (omega (arith, c.requires)) c.write-4.ensures in
     w4.so_far
