@@ -65,10 +65,19 @@ fn write_record(out: &mut [u64], s: &State, count: usize)
 {
     let stored = capped(s.signal_count, layout::STORE);
     write_head(out, s);
-    write_rows(&mut out[layout::RECORD_SIGNALS..], leading(&s.signals, stored));
+    write_rows(
+        &mut out[layout::RECORD_SIGNALS..],
+        leading(&s.signals, stored),
+    );
     write_rows(&mut out[layout::RECORD_VISITS..], leading(&s.visits, count));
-    write_rows(&mut out[layout::RECORD_STREAKS..], leading(&s.streaks, count));
-    write_rows(&mut out[layout::RECORD_RESULTS..], leading(&s.results, count));
+    write_rows(
+        &mut out[layout::RECORD_STREAKS..],
+        leading(&s.streaks, count),
+    );
+    write_rows(
+        &mut out[layout::RECORD_RESULTS..],
+        leading(&s.results, count),
+    );
 }
 
 // A record's numbers by themselves.
