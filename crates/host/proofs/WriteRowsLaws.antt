@@ -1,7 +1,7 @@
 -- Rows written by count, over zeros: rows that are left out are empty, so that their numbers are the zeros that stand there.
 use Rattle.std.specs.Prelude.{◌≡◌, true, false, get_or, replicate}
 use Rattle.std.proofs.Math.Path.{refl}
-use Rattle.std.proofs.Common.{get_or-drop, sym, ap, ◌∙◌, mul-suc, mul-add, length-drop, take_at, get_or-append-add}
+use Rattle.std.proofs.Common.{take_all, drop_of_length-le, get_or-take, get_or-drop, sym, ap, ◌∙◌, mul-suc, mul-add, length-drop, take_at, get_or-append-add}
 use Rattle.std.proofs.lemmas.Bool.{false≢true}
 use mathlib.Core.List.{List, [], ◌∷◌, ◌++◌, flat_map, append_assoc, append-nil}
 use Prim.Native.Nat.{ℕ, zero, suc, ◌+◌, ◌*◌, ◌-◌, ◌≤◌, ◌<◌, min}
@@ -155,10 +155,20 @@ splice_zeros : (l : List ℕ) (at n : ℕ) → at + n ≤ length l → Zeros l a
 unfolding splice
 splice_zeros l at n h z = sym (rw (length_zeros n, append_assoc) (zeros_stay at n l h z))
 
--- a part that is written, as the code has it
-pub put_splice : {A : Type 0} (at k : ℕ) (xs ys : List A) → k ≡ length ys → put_mid at k xs ys ≡ splice xs at ys
+-- numbers written at the front of what stands behind a place, as the code has it
+pub put_spliced : (l part ys : List ℕ) (p : ℕ) → p ≤ length l → part ≡ splice (take (length l - p) (drop p l)) 0 ys → put_mid p (length l - p) l part ≡ splice l p ys
 unfolding splice
-put_splice at k xs ys e = rw (drop-drop k at xs, e) (sym (append_assoc (take at xs) ys (drop (at + length ys) xs)))
+put_spliced l part ys p room e =
+    let d = length-drop p l in
+    let t : take (length l - p) (drop p l) ≡ drop p l = take_all (length l - p) (drop p l) (omega arith) in
+    let n : drop (length l - p) (drop p l) ≡ [] = drop_of_length-le (drop p l) (omega arith) in
+    let z : 0 + length ys ≡ length ys = omega arith in
+    let q : part ≡ ys ++ drop (length ys) (drop p l) = e ∙ rw (t, z) in
+    rw (n, append-nil, q, drop-drop (length ys) p l) (sym (append_assoc (take p l) ys (drop (p + length ys) l)))
+
+-- and what is zero there
+pub zeros_behind : (l : List ℕ) (p n : ℕ) → p + n ≤ length l → Zeros l p (p + n) → Zeros (take (length l - p) (drop p l)) 0 n
+zeros_behind l p n room z i a b = get_or-take (length l - p) (drop p l) i 0 (omega arith) ∙ get_or-drop p l i 0 ∙ z (p + i) (omega arith) (omega arith)
 
 -- zs over the first of the numbers us that were written there
 splice_over : (l : List ℕ) (p : ℕ) (us zs : List ℕ) → p + length us ≤ length l → length zs ≤ length us → splice (splice l p us) p zs ≡ splice l p (zs ++ drop (length zs) us)

@@ -23,6 +23,7 @@ use workflow::capped;
 use workflow::layout::{NODE_COUNT, NUMBERS};
 
 // Why what is lent gets no answer.
+// Kept: the numbers beside it (layout.rt), since the C header is made from them.
 #[derive(Clone, Copy, PartialEq, Eq, Debug)]
 enum Fault {
     ShortBuffer,

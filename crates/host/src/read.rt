@@ -26,6 +26,7 @@ const CODE: u64 = 65536;
 
 const MARK: u64 = 2;
 
+// Kept: std has no proved method that takes the lowest 32 bits.
 fn narrow(x: u64) -> u32
     ensures { result ≡ narrow x }
 {
@@ -33,6 +34,7 @@ fn narrow(x: u64) -> u32
 }
 
 // The number at a place.
+// Kept: a slice and a place, as in `xs[place]`; what it reads has no part of its own.
 pub(crate) fn number_at(xs: &[u64], place: usize) -> u32
     requires { place < length xs.now }
     ensures { result ≡ narrow (at xs.now place) }
@@ -50,6 +52,7 @@ fn error(code: u64, node: u64, detail: u64) -> ErrorInfo
     }
 }
 
+// Kept: four numbers by name, here and below; an array of them would be taken apart by index at once.
 pub(crate) fn output(tag: u64, a: u64, b: u64, c: u64) -> Output
     ensures { result ≡ output_of tag a b c }
 {
@@ -112,6 +115,7 @@ fn node_rows(xs: &[u64; layout::RECORD], rows: usize) -> usize
 }
 
 // None of a record that goes with no call.
+// Kept: a mark, since it is a parameter of a public function.
 pub fn used_rows(xs: &[u64; layout::RECORD], has_record: bool, rows: usize) -> Used
     requires { rows ≤ nodes }
     ensures { UsedRows has_record xs.now result }

@@ -26,9 +26,9 @@ pub trait Row: Copy {
 
     const WIDTH: usize;
 
-    fn write(&self, out: &mut [u64], at: usize)
-        requires { at + WIDTH ≤ length out.old }
-        ensures { out.new ≡ splice out.old at (numbers self.now) };
+    fn write(&self, out: &mut [u64])
+        requires { WIDTH ≤ length out.old }
+        ensures { out.new ≡ splice out.old 0 (numbers self.now) };
 
     ghost wide: { (row : Self) → length (numbers row) ≡ WIDTH };
 }
@@ -62,7 +62,7 @@ impl Row for BufferedSignal {
 
     const WIDTH: usize = layout::SIGNAL_WIDTH;
 
-    fn write(&self, out: &mut [u64], at: usize) {
+    fn write(&self, out: &mut [u64]) {
         let row = [
             self.sequence,
             u64::from(self.event_id),
@@ -70,7 +70,7 @@ impl Row for BufferedSignal {
             u64::from(self.outcome),
             u64::from(self.data),
         ];
-        write(out, at, &row);
+        write(out, &row);
     }
 }
 
@@ -114,8 +114,8 @@ impl Row for Visits {
 
     const WIDTH: usize = 1;
 
-    fn write(&self, out: &mut [u64], at: usize) {
-        out[at] = u64::from(self.count);
+    fn write(&self, out: &mut [u64]) {
+        out[0] = u64::from(self.count);
     }
 }
 
@@ -150,9 +150,9 @@ impl Row for Streak {
 
     const WIDTH: usize = layout::STREAK_WIDTH;
 
-    fn write(&self, out: &mut [u64], at: usize) {
+    fn write(&self, out: &mut [u64]) {
         let row = [u64::from(self.outcome), u64::from(self.count)];
-        write(out, at, &row);
+        write(out, &row);
     }
 }
 
@@ -189,7 +189,7 @@ impl Row for NodeResult {
 
     const WIDTH: usize = layout::RESULT_WIDTH;
 
-    fn write(&self, out: &mut [u64], at: usize) {
+    fn write(&self, out: &mut [u64]) {
         let o = self.output.numbers();
         let row = [
             u64::from(self.visit),
@@ -199,7 +199,7 @@ impl Row for NodeResult {
             o[2],
             o[3],
         ];
-        write(out, at, &row);
+        write(out, &row);
     }
 }
 
@@ -240,7 +240,7 @@ impl Row for Note {
 
     const WIDTH: usize = layout::NOTE_WIDTH;
 
-    fn write(&self, out: &mut [u64], at: usize) {
+    fn write(&self, out: &mut [u64]) {
         let row = [
             u64::from(self.code),
             u64::from(self.node),
@@ -248,7 +248,7 @@ impl Row for Note {
             u64::from(self.b),
             u64::from(self.c),
         ];
-        write(out, at, &row);
+        write(out, &row);
     }
 }
 
@@ -261,9 +261,9 @@ impl Row for Ending {
 
     const WIDTH: usize = layout::ENDING_WIDTH;
 
-    fn write(&self, out: &mut [u64], at: usize) {
+    fn write(&self, out: &mut [u64]) {
         let row = [self.sequence, u64::from(self.ending)];
-        write(out, at, &row);
+        write(out, &row);
     }
 }
 
@@ -292,11 +292,11 @@ pub fn leading<T: RecordRow>(rows: &[T], count: usize) -> &[T]
     rows
 }
 
-pub fn write_rows<T: Row>(out: &mut [u64], at: usize, rows: &[T])
-    requires { at + T.WIDTH * length rows.now ≤ length out.old }
-    ensures { out.new ≡ splice out.old at (flat_map T.numbers rows.now) }
+pub fn write_rows<T: Row>(out: &mut [u64], rows: &[T])
+    requires { T.WIDTH * length rows.now ≤ length out.old }
+    ensures { out.new ≡ splice out.old 0 (flat_map T.numbers rows.now) }
 {
     for (i, row) in rows.iter().enumerate() {
-        row.write(out, at + T::WIDTH * i);
+        row.write(&mut out[T::WIDTH * i..]);
     }
 }

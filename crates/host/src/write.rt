@@ -16,11 +16,11 @@ use model::answer::{Answer, Ending, Note};
 use model::event::Event;
 use workflow::capped;
 
-pub(crate) fn write(out: &mut [u64], at: usize, xs: &[u64])
-    requires { at + length xs.now ≤ length out.old }
-    ensures { out.new ≡ splice out.old at xs.now }
+pub(crate) fn write(out: &mut [u64], xs: &[u64])
+    requires { length xs.now ≤ length out.old }
+    ensures { out.new ≡ splice out.old 0 xs.now }
 {
-    out[at..at + xs.len()].copy_from_slice(xs);
+    out[..xs.len()].copy_from_slice(xs);
 }
 
 fn scalars(s: &State) -> [u64; layout::RECORD_ERROR]
@@ -44,35 +44,40 @@ fn scalars(s: &State) -> [u64; layout::RECORD_ERROR]
 }
 
 // A record up to its rows.
-fn write_head(out: &mut [u64], at: usize, s: &State)
-    requires { at + record_signals ≤ length out.old }
-    ensures { out.new ≡ splice out.old at (head_numbers s.now) }
+fn write_head(out: &mut [u64], s: &State)
+    requires { record_signals ≤ length out.old }
+    ensures { out.new ≡ splice out.old 0 (head_numbers s.now) }
 {
     let first = scalars(s);
     let kept = model::kept_numbers(s.invocation.error);
     let ended = s.result.output.numbers();
     let count = [u64::from(s.signal_count)];
-    write(out, at, &first);
-    write(out, at + layout::RECORD_ERROR, &kept);
-    write(out, at + layout::RECORD_RESULT, &ended);
-    write(out, at + layout::RECORD_STORED, &count);
+    write(out, &first);
+    write(&mut out[layout::RECORD_ERROR..], &kept);
+    write(&mut out[layout::RECORD_RESULT..], &ended);
+    write(&mut out[layout::RECORD_STORED..], &count);
 }
 
 // A record over zeros, with the sheet's count of nodes.
-fn write_record(out: &mut [u64], at: usize, s: &State, count: usize)
-    requires { (at + record_length ≤ length out.old) × (count ≤ nodes) × Zeros out.old at (at + record_length) }
-    ensures { out.new ≡ splice out.old at (record_numbers s.now) }
+fn write_record(out: &mut [u64], s: &State, count: usize)
+    requires { (record_length ≤ length out.old) × (count ≤ nodes) × Zeros out.old 0 record_length }
+    ensures { out.new ≡ splice out.old 0 (record_numbers s.now) }
 {
     let stored = capped(s.signal_count, layout::STORE);
-    write_head(out, at, s);
+    write_head(out, s);
     write_rows(
-        out,
-        at + layout::RECORD_SIGNALS,
+        &mut out[layout::RECORD_SIGNALS..],
         leading(&s.signals, stored),
     );
-    write_rows(out, at + layout::RECORD_VISITS, leading(&s.visits, count));
-    write_rows(out, at + layout::RECORD_STREAKS, leading(&s.streaks, count));
-    write_rows(out, at + layout::RECORD_RESULTS, leading(&s.results, count));
+    write_rows(&mut out[layout::RECORD_VISITS..], leading(&s.visits, count));
+    write_rows(
+        &mut out[layout::RECORD_STREAKS..],
+        leading(&s.streaks, count),
+    );
+    write_rows(
+        &mut out[layout::RECORD_RESULTS..],
+        leading(&s.results, count),
+    );
 }
 
 // A record's numbers by themselves.
@@ -80,7 +85,7 @@ pub fn record_numbers(s: State) -> [u64; layout::RECORD]
     ensures { result ≡ record_numbers s }
 {
     let mut out = [0; layout::RECORD];
-    write_record(&mut out, 0, &s, layout::NODES);
+    write_record(&mut out, &s, layout::NODES);
     out
 }
 
@@ -128,10 +133,10 @@ fn write_front(out: &mut [u64], d: &Decision)
     let noted = capped(d.note_count, layout::NOTES);
     let ended = capped(d.ending_count, layout::ENDINGS);
     out[..layout::ANSWER].fill(0);
-    write(out, layout::ANSWER_KIND, &d.answer.numbers());
-    write(out, layout::ANSWER_NOTED, &counts);
-    write_rows(out, layout::ANSWER_NOTES, &notes[..noted]);
-    write_rows(out, layout::ANSWER_ENDINGS, &endings[..ended]);
+    write(out, &d.answer.numbers());
+    write(&mut out[layout::ANSWER_NOTED..], &counts);
+    write_rows(&mut out[layout::ANSWER_NOTES..], &notes[..noted]);
+    write_rows(&mut out[layout::ANSWER_ENDINGS..], &endings[..ended]);
 }
 
 // With the sheet's count of nodes. A refusal has no record: zeros are left.
@@ -144,5 +149,5 @@ pub fn write_decision(out: &mut [u64], d: Decision, count: usize)
     if is_refused(d.answer) {
         return;
     }
-    write_record(out, layout::ANSWER_RECORD, &d.state, count);
+    write_record(&mut out[layout::ANSWER_RECORD..], &d.state, count);
 }

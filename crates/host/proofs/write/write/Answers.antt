@@ -1,6 +1,8 @@
-use Rattle.std.proofs.Common.{arith}
-use Rattle.host.proofs.WriteRowsLaws.{put_splice}
+use Rattle.std.proofs.Common.{arith, length, ◌+◌}
+use Rattle.std.specs.Prelude.{◌≡◌}
+use Rattle.laws.specs.Splice.{splice}
 use Rattle.host.proofs.write.write.Goals as goal
 
 pub returns : goal.returns
-returns c = rw c.copy_from_slice.ensures.after (put_splice _ _ _ _ (omega arith))
+unfolding splice
+returns c = let z : 0 + length c.args.xs.now ≡ length c.args.xs.now = omega arith in rw (c.copy_from_slice.ensures.after, z)

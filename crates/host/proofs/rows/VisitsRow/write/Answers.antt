@@ -5,4 +5,4 @@ use Rattle.host.proofs.rows.VisitsRow.write.Goals as goal
 
 pub returns : goal.returns
 unfolding visits_numbers
-returns c = rw c.from.ensures (splice_one c.args.out.now c.args.at c.args.self.now.count (omega (arith, c.requires)))
+returns c = rw c.from.ensures (splice_one c.args.out.now 0 c.args.self.now.count (omega (arith, c.requires)))
