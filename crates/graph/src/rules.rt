@@ -55,7 +55,7 @@ pub fn rule_1(w: &[u32; NUMBERS]) -> Result<(), Broken>
 {
     rule(
         Refusal::Format,
-        (w[layout::FORMAT] == code::FORMAT_0_1) | is_0_2(w),
+        w[layout::FORMAT] == code::FORMAT_0_1 || is_0_2(w),
     )
 }
 
@@ -256,7 +256,7 @@ fn breaks_9(w: &[u32; NUMBERS], node: u32, routes: Rows) -> bool
 fn is_out_of_range(most: u32, limit: u32) -> bool
     ensures { result ≡ out_of_range most limit }
 {
-    (limit == 0) | (most < limit.saturating_add(1))
+    limit == 0 || most < limit.saturating_add(1)
 }
 
 // A limit is out of range, or its outcome is not marked.
