@@ -252,11 +252,12 @@ fn breaks_9(w: &[u32; NUMBERS], node: u32, routes: Rows) -> bool
 
 // Rule 12.
 
+// Kept: | here and in `has_bad_limit`, since with || a verdict on a full sheet takes 1.15 times as long (b).
 // A limit that is 0 or not below the most visits: one more than it stays at the largest number.
 fn is_out_of_range(most: u32, limit: u32) -> bool
     ensures { result ≡ out_of_range most limit }
 {
-    limit == 0 || most < limit.saturating_add(1)
+    (limit == 0) | (most < limit.saturating_add(1))
 }
 
 // A limit is out of range, or its outcome is not marked.
