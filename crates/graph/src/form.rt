@@ -101,10 +101,10 @@ fn formed_declared(w: &[u32; NUMBERS], x: Declared) -> bool
 }
 
 // A row of x and y may follow one of a and b.
-pub fn ascends(a: u32, b: u32, x: u32, y: u32) -> bool
+fn ascends(a: u32, b: u32, x: u32, y: u32) -> bool
     ensures { result ≡ ascends a b x y }
 {
-    (a < x) | ((a == x) & (b < y))
+    (a, b) < (x, y)
 }
 
 // The order of the first `count` rows: strictly ascending by two columns, or grouped by a rising one.

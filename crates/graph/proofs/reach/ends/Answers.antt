@@ -1,4 +1,4 @@
-use Rattle.std.proofs.Common.{rules, arith, refl, ◌∙◌, ◌≡◌}
+use Rattle.std.proofs.Common.{rules, arith, ◌∙◌, ◌≡◌}
 use Rattle.laws.specs.Bool.{when◌then◌else◌}
 use Rattle.workflow.specs.View.{workflow}
 use Rattle.graph.specs.Accepted.{sound}
@@ -7,9 +7,6 @@ use Rattle.graph.proofs.reach.ends.Goals as goal
 
 pub bit-set-requires : goal.bit-set-requires
 bit-set-requires c = omega (arith, (sound _ c.requires).few_nodes)
-
-pub loop-node-init : goal.loop-node-init
-loop-node-init c = refl
 
 pub loop-node-preserved : goal.loop-node-preserved
 unfolding when◌then◌else◌

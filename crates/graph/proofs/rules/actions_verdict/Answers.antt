@@ -5,7 +5,7 @@ use Rattle.std.proofs.lemmas.Result.{err_from_is_err_and}
 use Rattle.laws.specs.First.{seek_hit, seek_miss, seek_end}
 use Rattle.graph.specs.declared.search.Rows.{Rows}
 use Rattle.graph.specs.SearchLaws.{parts_of}
-use Rattle.graph.specs.RulesLaws.{actions_rise, the_group, walk_start}
+use Rattle.graph.specs.RulesLaws.{actions_rise, walk_start}
 use Rattle.graph.specs.Verdict.{actions_verdict}
 use Rattle.graph.proofs.rules.actions_verdict.Goals as goal
 
@@ -15,9 +15,6 @@ loop-action-init c = walk_start
 
 pub starting_at-rows-requires : goal.starting_at-rows-requires
 starting_at-rows-requires c = (c.loop-action.invariant.place, rw c.capped-k.ensures (actions_rise _ c.requires))
-
-pub action_verdict-requires : goal.action_verdict-requires
-action_verdict-requires c = the_group c.requires c.capped-k.ensures c.starting_at-rows.ensures
 
 pub returns-in_err-action_verdict : goal.returns-in_err-action_verdict
 returns-in_err-action_verdict c =

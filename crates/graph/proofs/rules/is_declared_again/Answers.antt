@@ -1,9 +1,6 @@
 use native.Mathlib.Omega.{arith}
-use Rattle.graph.specs.RulesLaws.{again_start, again_hit, again_miss, again_end}
+use Rattle.graph.specs.RulesLaws.{again_hit, again_miss, again_end}
 use Rattle.graph.proofs.rules.is_declared_again.Goals as goal
-
-pub loop-outcome-init : goal.loop-outcome-init
-loop-outcome-init c = again_start _
 
 pub returns-then-m-o : goal.returns-then-m-o
 returns-then-m-o c = again_hit c.loop-outcome.invariant (omega arith) c.if-m-o.true
