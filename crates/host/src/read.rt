@@ -12,8 +12,8 @@ use graph::Ceilings;
 use kernel::{Call, Limits};
 use model::event::{Event, Mapping, Mappings};
 use model::{
-    BufferedSignal, ErrorInfo, InvocationState, NodeResult, Output, Position, RunResult,
-    State, Streak, Visits,
+    BufferedSignal, ErrorInfo, InvocationState, NodeResult, Output, Position, RunResult, State,
+    Streak, Visits,
 };
 
 // What a field's number must be below: any number; the name of a node, an action, a signal or an outcome; the code of an
