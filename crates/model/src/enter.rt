@@ -68,6 +68,7 @@ enum Standing {
 #[derive(Clone, Copy)]
 struct Entry {
     // the node is entered: one more visit and one more activation
+    // Kept: no value goes with it (d).
     entered: bool,
     standing: Standing,
     next: Next,

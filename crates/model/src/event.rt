@@ -1,6 +1,7 @@
 // What a call carries beside the sheet and the record.
 
 // One event. Fields that its kind doesn't read are ignored.
+// Kept: kind, status and resolution are numbers, since a call takes any and refuses what it doesn't know with 21; an error's mark stands beside its numbers as a host lends them (a).
 #[derive(Clone, Copy)]
 pub struct Event {
     pub sequence: u64,
@@ -28,6 +29,7 @@ pub struct Event {
 }
 
 // One mapping answer: 1 a value, 2 a fault, 3 unencodable.
+// Kept: kind is a number, since a call takes any and refuses what it doesn't know with 21 (a).
 #[derive(Clone, Copy)]
 pub struct Mapping {
     pub kind: u32,
@@ -38,6 +40,7 @@ pub struct Mapping {
 }
 
 // The mapping answers of a call; those at or past the count are ignored.
+// Kept: an array with its count, in fixed memory (a).
 #[derive(Clone, Copy)]
 pub struct Mappings {
     pub answers: [Mapping; 2],

@@ -28,7 +28,7 @@ pub struct ErrorInfo {
 }
 
 // What a node or a run yielded: a handle or an error, or nothing so far.
-// Kept: document 01 has these three cases; an `Option<Result<..>>` says the same in more words, and makes each of the 64 results larger.
+// Kept: document 01 has these three cases; an `Option<Result<..>>` says the same in more words, and makes each of the 64 results larger (d).
 #[derive(Clone, Copy)]
 pub enum Output {
     Nothing,
@@ -79,6 +79,7 @@ pub struct Position {
 }
 
 // The outstanding invocation; phase 0, node 255 and zeros for none.
+// Kept: phase is a number, since a call takes a record with any number and refuses it with 25 (a).
 #[derive(Clone, Copy)]
 pub struct InvocationState {
     pub phase: u32,
@@ -93,6 +94,7 @@ pub struct InvocationState {
 }
 
 // The run record. Signals are stored oldest first; visits, streaks and results are by node.
+// Kept: arrays beside their count, and status a number: document 01's record in fixed memory, which a call takes with any numbers and refuses with 25 (a).
 #[derive(Clone, Copy)]
 pub struct State {
     pub signals: [BufferedSignal; code::STORE],
