@@ -64,7 +64,7 @@ fn next_stage(w: &[u32; NUMBERS], s: &State, kind: u32, sequence: u64) -> Result
     ensures { result ≡ next_stage (workflow w.now) s.now kind sequence }
 {
     rule(Refusal::StartedBefore, kind != record::RUN_STARTED)?;
-    rule(Refusal::Inconsistent, snapshot::consistent(w, *s))?;
+    rule(Refusal::Inconsistent, snapshot::consistent(w, s))?;
     rule(Refusal::OutOfSequence, is_next(sequence, s.last_sequence))
 }
 

@@ -232,7 +232,7 @@ impl State {
     }
 
     // The visits of a node: none where it has no slot.
-    pub(crate) fn visits_of(&self, node: u32) -> Visits
+    pub fn visits_of(&self, node: u32) -> Visits
         ensures { result ≡ visits_of self.now node }
     {
         let slot = self.visits.get(node as usize);
@@ -240,7 +240,7 @@ impl State {
     }
 
     // The streak of a node: none where it has no slot.
-    pub(crate) fn streak_of(&self, node: u32) -> Streak
+    pub fn streak_of(&self, node: u32) -> Streak
         ensures { result ≡ streak_of self.now node }
     {
         let slot = self.streaks.get(node as usize);

@@ -43,14 +43,14 @@ impl State {
     }
 
     // The stored signals as left over, oldest first.
-    pub fn left_over(self) -> [Ending; code::STORE]
-        ensures { result ≡ padded store no_ending (left_over (stored self)) }
+    pub fn left_over(&self) -> [Ending; code::STORE]
+        ensures { result ≡ padded store no_ending (left_over (stored self.now)) }
     {
         let mut endings = [no_ending(); code::STORE];
         let rows = workflow::capped(self.signal_count, code::STORE);
-        for i in 0..rows {
+        for (i, signal) in self.signals[..rows].iter().enumerate() {
             endings[i] = Ending {
-                sequence: self.signals[i].sequence,
+                sequence: signal.sequence,
                 ending: code::END_LEFT_OVER,
             };
         }
@@ -67,8 +67,8 @@ impl State {
     }
 
     // The store's part of the run check: a stored signal has a sequence number in range, and an unused slot is all zero.
-    pub fn store_fits(self) -> bool
-        ensures { result ≡ store_fits self }
+    pub fn store_fits(&self) -> bool
+        ensures { result ≡ store_fits self.now }
     {
         if State::STORE < self.signal_count {
             return false;

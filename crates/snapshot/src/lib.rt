@@ -1,18 +1,16 @@
 // The run check (`consistent` and `owned_by` of snapshot.rs, and what document 01 adds) and the event check.
 #![tactic(auto)]
 
-ghost use Rattle.std.specs.Prelude.{◌≡◌};
+ghost use Rattle.std.specs.Prelude.{◌≡◌, ◌<◌};
+ghost use Rattle.workflow.specs.Layout.{node_room};
 ghost use Rattle.workflow.specs.View.{workflow};
-ghost use Rattle.snapshot.specs.Check.{result_unused, result_zero, result_fits, streak_fits, slots_fit, counters_fit, is_no_invocation, result_of_status, owned_by, phase_fits, stands, consistent};
+ghost use Rattle.snapshot.specs.Check.{result_unused, result_zero, result_fits, streak_fits, slot_fits, slots_fit, counters_fit, is_no_invocation, result_of_status, terminal_fits, owned_by, phase_fits, live_fits, stands, consistent};
 ghost use Rattle.snapshot.specs.EventCheck.{in_range, event_fits};
-ghost use Rattle.snapshot.specs.CheckLaws.{node_fits, terminal_by, error_fits, invocation_fits, live_by, answers_fit};
+ghost use Rattle.snapshot.specs.CheckLaws.{error_fits, invocation_fits, answers_fit};
 
 use model::event::{Event, Mappings};
 use model::store::leaves_over;
-use model::{
-    ErrorInfo, InvocationState, NodeResult, Output, Position, RunResult, State, Streak, Visits,
-    code,
-};
+use model::{ErrorInfo, InvocationState, NodeResult, Output, Position, State, Streak, code};
 use workflow::layout::{NODES, NUMBERS};
 use workflow::{Node, code as sheet};
 
@@ -53,12 +51,16 @@ fn streak_fits(w: &[u32; NUMBERS], node: u32, x: Streak) -> bool
 }
 
 // All of them; all zero where the sheet lacks it.
-fn node_fits(w: &[u32; NUMBERS], node: u32, visits: Visits, res: NodeResult, streak: Streak) -> bool
-    ensures { result ≡ node_fits (workflow w.now) node visits res streak }
+fn node_fits(w: &[u32; NUMBERS], s: &State, node: usize) -> bool
+    requires { node < node_room }
+    ensures { result ≡ slot_fits (workflow w.now) s.now node }
 {
-    if node < w[workflow::layout::NODE_COUNT] {
-        return result_fits(res) & streak_fits(w, node, streak);
+    let res = s.results[node];
+    let streak = s.streaks[node];
+    if node < w[workflow::layout::NODE_COUNT] as usize {
+        return result_fits(res) & streak_fits(w, node as u32, streak);
     }
+    let visits = s.visits[node];
     (visits.count == 0) & result_zero(res) & (streak.outcome == 0) & (streak.count == 0)
 }
 
@@ -88,19 +90,13 @@ fn result_of_status(status: u32, x: Output) -> bool
     }
 }
 
-fn terminal_fits(
-    status: u32,
-    position: Position,
-    invocation: InvocationState,
-    res: RunResult,
-) -> bool
-    ensures { result ≡ terminal_by status position invocation res }
+fn terminal_fits(s: &State) -> bool
+    ensures { result ≡ terminal_fits s.now }
 {
-    let output = res.output;
-    (position.node == sheet::NONE)
-        & (position.visit == 0)
-        & is_no_invocation(invocation)
-        & result_of_status(status, output)
+    (s.position.node == sheet::NONE)
+        & (s.position.visit == 0)
+        & is_no_invocation(s.invocation)
+        & result_of_status(s.status, s.result.output)
 }
 
 // Exactly a stuck invocation keeps an error.
@@ -132,83 +128,56 @@ fn phase_fits(w: &[u32; NUMBERS], status: u32, phase: u32) -> bool
 }
 
 // The node waits without an invocation, or works on its own.
-fn invocation_fits(
-    w: &[u32; NUMBERS],
-    node: Node,
-    status: u32,
-    position: Position,
-    invocation: InvocationState,
-) -> bool
-    ensures { result ≡ invocation_fits (workflow w.now) node status position invocation }
+fn invocation_fits(w: &[u32; NUMBERS], node: Node, s: &State) -> bool
+    ensures { result ≡ invocation_fits (workflow w.now) node s.now }
 {
-    if status == code::WAITING {
-        return (node.kind == sheet::AWAIT_SIGNAL) & is_no_invocation(invocation);
+    if s.status == code::WAITING {
+        return (node.kind == sheet::AWAIT_SIGNAL) & is_no_invocation(s.invocation);
     }
     (node.kind == sheet::ACTIVITY)
-        & phase_fits(w, status, invocation.phase)
-        & owned_by(invocation, position, node.action)
+        & phase_fits(w, s.status, s.invocation.phase)
+        & owned_by(s.invocation, s.position, node.action)
 }
 
-fn live_fits(
-    w: &[u32; NUMBERS],
-    status: u32,
-    visits: Visits,
-    position: Position,
-    invocation: InvocationState,
-    res: RunResult,
-) -> bool
-    ensures { result ≡ live_by (workflow w.now) status visits position invocation res }
+// A run that hasn't ended stands at a node of the sheet, on its last visit.
+fn live_fits(w: &[u32; NUMBERS], s: &State) -> bool
+    ensures { result ≡ live_fits (workflow w.now) s.now }
 {
-    let output = res.output;
+    let position = s.position;
+    let visits = s.visits_of(position.node);
     let node = workflow::node_of(w, position.node);
-    result_unused(output)
+    result_unused(s.result.output)
         & (position.node < w[workflow::layout::NODE_COUNT])
         & (0 < position.visit)
         & (visits.count == position.visit)
-        & invocation_fits(w, node, status, position, invocation)
+        & invocation_fits(w, node, s)
 }
 
-fn stands(w: &[u32; NUMBERS], s: State) -> bool
-    ensures { result ≡ stands (workflow w.now) s }
+fn stands(w: &[u32; NUMBERS], s: &State) -> bool
+    ensures { result ≡ stands (workflow w.now) s.now }
 {
-    let position = s.position;
-    let invocation = s.invocation;
-    let result = s.result;
     if model::is_terminal(s.status) {
-        return terminal_fits(s.status, position, invocation, result);
+        return terminal_fits(s);
     }
-    let n = position.node as usize;
-    if NODES <= n {
-        return false;
-    }
-    let visits = s.visits[n];
-    live_fits(w, s.status, visits, position, invocation, result)
+    live_fits(w, s)
 }
 
 // The slots of every node.
-fn slots_fit(w: &[u32; NUMBERS], s: State) -> bool
-    ensures { result ≡ slots_fit (workflow w.now) s }
+fn slots_fit(w: &[u32; NUMBERS], s: &State) -> bool
+    ensures { result ≡ slots_fit (workflow w.now) s.now }
 {
-    for n in 0..NODES {
-        let visits = s.visits[n];
-        let result = s.results[n];
-        let streak = s.streaks[n];
-        if !node_fits(w, n as u32, visits, result, streak) {
-            return false;
-        }
-    }
-    true
+    (0..NODES).all(|node| node_fits(w, s, node))
 }
 
-fn counters_fit(s: State) -> bool
-    ensures { result ≡ counters_fit s }
+fn counters_fit(s: &State) -> bool
+    ensures { result ≡ counters_fit s.now }
 {
     (s.last_sequence <= code::LARGEST) & (s.last_accepted_at <= code::LARGEST)
 }
 
 // The run check: counters, store, slots, where the run stands, and that no signal is left over.
-pub fn consistent(w: &[u32; NUMBERS], s: State) -> bool
-    ensures { result ≡ consistent (workflow w.now) s }
+pub fn consistent(w: &[u32; NUMBERS], s: &State) -> bool
+    ensures { result ≡ consistent (workflow w.now) s.now }
 {
     counters_fit(s)
         & s.store_fits()
