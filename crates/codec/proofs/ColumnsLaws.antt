@@ -1,5 +1,5 @@
 -- Columns and stages, both ways: what is written is read back, and only what is written is read.
-use Rattle.std.specs.Prelude.{◌≡◌, ℕ, ◌+◌, ◌*◌, ◌-◌, ◌^◌, ◌≤◌, ltb, get_or, take, drop}
+use Rattle.std.specs.Prelude.{◌≡◌, ℕ, ◌+◌, ◌*◌, ◌-◌, ◌^◌, ◌≤◌, ltb, take, drop}
 use Rattle.std.proofs.Math.Path.{refl}
 use Rattle.std.proofs.Common.{◌∙◌, arith, mul-suc, length-append, take-append-drop, length-take-le}
 use Rattle.std.proofs.Math.Bool.{true}
@@ -9,6 +9,7 @@ use borrow.Author.Tests.{ltb-false, le-ltb, leb-true, le-leb, eqb-true, eq-eqb}
 use Rattle.laws.specs.Bool.{when◌then◌else◌, split, both, join}
 use Rattle.laws.specs.Listing.{padded}
 use Rattle.laws.specs.All.{All}
+use Rattle.codec.specs.declared.columns.Column.{Column}
 use Rattle.codec.specs.Read.{Read, got, bad, onward}
 use Rattle.codec.specs.Numbers.{bytes_of, numbers_at, all_below}
 use Rattle.codec.specs.Stages.{Shape, numbers, column, beside, total, columns, Stage, widths, staged, all_zero}
@@ -98,18 +99,16 @@ module _ (top room used : ℕ) where
         }
 
 -- COLUMNS one behind the other.
-pub columns_width : (top : ℕ) (rooms used : List ℕ) → (columns top rooms used).width ≡ total rooms
+pub columns_width : (top : ℕ) (plan : List Column) → (columns top plan).width ≡ total plan
 unfolding columns total numbers beside column
-columns_width top [] used = refl
-columns_width top (room ∷ rooms) used = refl
+columns_width top [] = refl
+columns_width top (one ∷ more) = refl
 
-pub columns_exact : (top : ℕ) (rooms used : List ℕ) → top ≤ 2 ^ 64 → Exact (columns top rooms used)
+pub columns_exact : (top : ℕ) (plan : List Column) → top ≤ 2 ^ 64 → Exact (columns top plan)
 unfolding columns
-columns_exact top [] used small = numbers_exact 0 0 (omega arith)
-columns_exact top (room ∷ rooms) used small =
-    beside_exact (column top room (get_or used 0 0)) (λ _. columns top rooms (drop 1 used)) (total rooms) (column_exact top room (get_or used 0 0) small)
-    (λ _. columns_exact top rooms (drop 1 used) small)
-    (λ _. columns_width top rooms (drop 1 used))
+columns_exact top [] small = numbers_exact 0 0 (omega arith)
+columns_exact top (one ∷ more) small =
+    beside_exact (column top one.room one.used) (λ _. columns top more) (total more) (column_exact top one.room one.used small) (λ _. columns_exact top more small) (λ _. columns_width top more)
 
 -- HOW MANY BYTES: at most ten a number.
 pub bytes_few : (ns : List ℕ) → length (bytes_of ns) ≤ 10 * length ns

@@ -1,17 +1,16 @@
 -- The loops over columns: the shape that is left at a column, and what the numbers of one column say.
-use Rattle.std.specs.Prelude.{◌≡◌, Bool, true, false, not, List, ◌∷◌, ℕ, ◌+◌, ◌*◌, ◌-◌, ◌≤◌, ◌<◌, length}
+use Rattle.std.specs.Prelude.{◌≡◌, Option, Some, None, Bool, true, false, not, List, ◌∷◌, ℕ, ◌+◌, ◌*◌, ◌-◌, ◌≤◌, ◌<◌, length}
 use Rattle.std.proofs.Math.Path.{refl, sym, ap}
-use Rattle.std.proofs.Common.{◌∙◌, drop_of_length-le, drop-cons, get_or-drop}
+use Rattle.std.proofs.Common.{◌∙◌, drop_of_length-le, drop-cons}
 use native.Mathlib.Omega.{arith}
 use Rattle.std.proofs.Math.Numerals.{add-one}
 use Rattle.std.proofs.Math.Dec.{ltb}
 use Rattle.std.proofs.Math.ListN.{get_or, drop}
-use Rattle.std.proofs.Math.Seq.{drop-drop}
 use borrow.Author.Tests.{lt-ltb, le-leb, lt-leb, eq-eqb, not-true, not-false}
 use Rattle.laws.specs.Bool.{when◌then◌else◌, ◌and◌}
 use Rattle.laws.specs.Splice.{splice}
 use Rattle.laws.specs.Listing.{padded}
-use Rattle.codec.specs.declared.numbers.Place.{Place}
+use Rattle.codec.specs.declared.columns.Column.{Column}
 use Rattle.codec.specs.Read.{Read, got, bad, onward}
 use Rattle.codec.specs.Numbers.{bytes_of, numbers_at, part}
 use Rattle.codec.specs.Stages.{Shape, numbers, column, beside, total, columns, all_zero}
@@ -23,25 +22,25 @@ use Rattle.codec.proofs.Parts.{part_long, part_front, part_back, part_below, eve
 use Rattle.codec.proofs.StoredLaws.{at_got, at_bad}
 use Rattle.codec.proofs.ShapesLoops.{ReadingShapes, reading_start, reading_long, reading_room, reading_bad, reading_more, reading_place, reading_stored, neat, written, neat_next, neat_none, Ahead, Step, step, WritingShapes, writing_start, writing_long, writing_room, writing_more, writing_place, writing_end, CountingShapes, counting_more, counting_end}
 use Rattle.codec.proofs.ColumnsLaws.{tidy_column, column_read, columns_width}
-use Rattle.codec.proofs.PartLaws.{part_few}
+use Rattle.codec.proofs.PartLaws.{part_few, put_part, part_stored}
 
--- THE SHAPE THAT IS LEFT at column c.
-abbrev left_at : (top : ℕ) (rooms used : List ℕ) (c : ℕ) → Shape
-left_at top rooms used c = columns top (drop c rooms) (drop c used)
+-- COLUMN c, and the shape that is left at it.
+abbrev one : List Column → (c : ℕ) → Column
+one plan c = get_or plan c (record { room = 0; used = 0 })
 
-module _ (top : ℕ) (rooms used : List ℕ) (c : ℕ) where
-  left_next : c < length rooms → left_at top rooms used c ≡ beside (column top (get_or rooms c 0) (get_or used c 0)) (λ _. left_at top rooms used (c + 1)) (total (drop (c + 1) rooms))
+abbrev left_at : (top : ℕ) (plan : List Column) (c : ℕ) → Shape
+left_at top plan c = columns top (drop c plan)
+
+module _ (top : ℕ) (plan : List Column) (c : ℕ) where
+  left_next : c < length plan → left_at top plan c ≡ beside (column top (one plan c).room (one plan c).used) (λ _. left_at top plan (c + 1)) (total (drop (c + 1) plan))
   unfolding columns
   left_next h =
-      let z : c + 0 ≡ c = omega arith in
-      let a : get_or (drop c used) 0 0 ≡ get_or used c 0 = rw z at (get_or-drop c used 0 0) in
-      let b : drop 1 (drop c used) ≡ drop (c + 1) used = drop-drop 1 c used in
-      let d : drop c rooms ≡ get_or rooms c 0 ∷ drop (c + 1) rooms = rw add-one (drop-cons rooms c 0 h) in
-      rw (d, a, b)
+      let d : drop c plan ≡ one plan c ∷ drop (c + 1) plan = rw add-one (drop-cons plan c (record { room = 0; used = 0 }) h) in
+      rw d
 
-  left_none : length rooms ≤ c → left_at top rooms used c ≡ numbers 0 0
+  left_none : length plan ≤ c → left_at top plan c ≡ numbers 0 0
   unfolding columns
-  left_none h = rw (drop_of_length-le rooms h)
+  left_none h = rw (drop_of_length-le plan h)
 
 -- ONE COLUMN READ. A count above its room; the numbers in a list that is zero from there on.
 pub column_over : (top room used : ℕ) (bytes : List ℕ) (at : ℕ) → room < used → (column top room used).read bytes at ≡ bad
@@ -54,7 +53,7 @@ module _ (top room used : ℕ) (bytes : List ℕ) (at : ℕ) (low : used ≤ roo
   same_place bad = refl
   same_place (got ns p) = refl
 
-  pub column_place : {z : Place} → z ≡ place_of (numbers_at top used bytes at) → z ≡ place_of ((column top room used).read bytes at)
+  pub column_place : {z : Option ℕ} → z ≡ place_of (numbers_at top used bytes at) → z ≡ place_of ((column top room used).read bytes at)
   column_place e = e ∙ same_place (numbers_at top used bytes at) ∙ ap place_of (sym (column_read top room used bytes at low))
 
   -- what the numbers are where the column was read
@@ -114,181 +113,185 @@ module _ (top room used : ℕ) (xs : List ℕ) (i : ℕ) where
   column_crowded over h = rw (eq-eqb (length (part xs i (i + room))) room (part_long xs i room h), lt-leb used room over)
 
 -- THE LOOP THAT READS, at column c.
-pub record ReadingColumns (top : ℕ) (rooms used bytes : List ℕ) (whole : Read (List ℕ)) (before : List ℕ) (first at i c : ℕ) (list : List ℕ) : Type 0 where
-  pub reading : ReadingShapes bytes whole before first (left_at top rooms used c) at i list
+pub record ReadingColumns (top : ℕ) (plan : List Column) (bytes : List ℕ) (whole : Read (List ℕ)) (before : List ℕ) (first at i c : ℕ) (list : List ℕ) : Type 0 where
+  pub reading : ReadingShapes bytes whole before first (left_at top plan c) at i list
 
-pub read_start : (top : ℕ) (rooms used bytes list : List ℕ) (first at : ℕ) → first + total rooms ≤ length list → ZeroFrom first list → ReadingColumns top rooms used bytes ((columns top rooms used).read bytes at) list first at first 0 list
-read_start top rooms used bytes list first at h z = record { reading = reading_start bytes list first (columns top rooms used) at (rw (columns_width top rooms used) h) z }
+pub read_start : (top : ℕ) (plan : List Column) (bytes list : List ℕ) (first at : ℕ) → first + total plan ≤ length list → ZeroFrom first list → ReadingColumns top plan bytes ((columns top plan).read bytes at) list first at first 0 list
+read_start top plan bytes list first at h z = record { reading = reading_start bytes list first (columns top plan) at (rw (columns_width top plan) h) z }
 
-module _ {top : ℕ} {rooms used bytes : List ℕ} {whole : Read (List ℕ)} {before : List ℕ} {first at i c : ℕ} {list : List ℕ} (inv : ReadingColumns top rooms used bytes whole before first at i c list) where
+module _ {top : ℕ} {plan : List Column} {bytes : List ℕ} {whole : Read (List ℕ)} {before : List ℕ} {first at i c : ℕ} {list : List ℕ} (inv : ReadingColumns top plan bytes whole before first at i c list) where
   pub read_long : length list ≡ length before
   read_long = reading_long inv.reading
 
-  module _ (h : c < length rooms) where
-    pub read_room : i + get_or rooms c 0 ≤ length list
+  module _ (h : c < length plan) where
+    pub read_room : i + (one plan c).room ≤ length list
     unfolding column
-    read_room = reading_room inv.reading _ _ _ (left_next top rooms used c h)
+    read_room = reading_room inv.reading _ _ _ (left_next top plan c h)
 
-    pub read_over : get_or rooms c 0 < get_or used c 0 → whole ≡ bad
-    read_over over = reading_bad inv.reading _ _ _ (left_next top rooms used c h) (column_over top (get_or rooms c 0) (get_or used c 0) bytes at over)
+    pub read_over : (one plan c).room < (one plan c).used → whole ≡ bad
+    read_over over = reading_bad inv.reading _ _ _ (left_next top plan c h) (column_over top (one plan c).room (one plan c).used bytes at over)
 
-    -- the answer z of the column's numbers, and the list that they leave
-    module _ {z : Place} (low : get_or used c 0 ≤ get_or rooms c 0) (answer : z ≡ place_of (numbers_at top (i + get_or used c 0 - i) bytes at)) where
-      answered : z ≡ place_of ((column top (get_or rooms c 0) (get_or used c 0)).read bytes at)
-      answered =
-          let e : i + get_or used c 0 - i ≡ get_or used c 0 = omega arith in
-          column_place top (get_or rooms c 0) (get_or used c 0) bytes at low (rw e at answer)
+    -- the answer z of a read into the column's numbers, and what that leaves of them
+    module _ {z : Option ℕ} (low : (one plan c).used ≤ (one plan c).room) (answer : z ≡ place_of (numbers_at top (length (part list i (i + (one plan c).used))) bytes at)) where
+      used_long : length (part list i (i + (one plan c).used)) ≡ (one plan c).used
+      used_long = let r = read_room in part_long list i (one plan c).used (omega arith)
 
-      pub read_bad : z ≡ Place.Bad → whole ≡ bad
-      read_bad b = reading_bad inv.reading _ _ _ (left_next top rooms used c h) (at_bad answered b)
+      answered : z ≡ place_of ((column top (one plan c).room (one plan c).used).read bytes at)
+      answered = column_place top (one plan c).room (one plan c).used bytes at low (rw used_long at answer)
 
-      pub read_more : {p : ℕ} {after : List ℕ} → z ≡ Place.At p → Stored (numbers_at top (i + get_or used c 0 - i) bytes at) list i after → ReadingColumns top rooms used bytes whole before first p (i + get_or rooms c 0) (c + 1) after
+      pub read_bad : z ≡ None → whole ≡ bad
+      read_bad b = reading_bad inv.reading _ _ _ (left_next top plan c h) (at_bad answered b)
+
+      pub read_more : {p : ℕ} {after : List ℕ} → z ≡ Some p → Stored (numbers_at top (length (part list i (i + (one plan c).used))) bytes at) (part list i (i + (one plan c).used)) 0 after → ReadingColumns top plan bytes whole before first p (i + (one plan c).room) (c + 1) (put_part list i (i + (one plan c).used) after)
       unfolding column
       read_more {p} {after} g s =
-          let e : i + get_or used c 0 - i ≡ get_or used c 0 = omega arith in
+          let k = (one plan c).used in
           let r = at_got answered g in
+          let room = read_room in
+          let s' : Stored (numbers_at top k bytes at) list i (put_part list i (i + k) after) =
+          part_stored list i (i + k) (omega arith) (omega arith) (λ ns q e. let n = numbers_long top bytes k at ns q e in omega arith) (rw used_long at s) in
           record {
-            reading = reading_more inv.reading _ _ _ (left_next top rooms used c h) r.value p after r.is
-                (column_long top (get_or rooms c 0) (get_or used c 0) bytes at low r.value p r.is)
-                (columns_width top (drop (c + 1) rooms) (drop (c + 1) used))
-                (column_stored top (get_or rooms c 0) (get_or used c 0) bytes at low read_room inv.reading.blank (rw e at s));
+            reading = reading_more inv.reading _ _ _ (left_next top plan c h) r.value p (put_part list i (i + k) after) r.is
+                (column_long top (one plan c).room k bytes at low r.value p r.is)
+                (columns_width top (drop (c + 1) plan))
+                (column_stored top (one plan c).room k bytes at low room inv.reading.blank s');
           }
 
-  module _ (h : length rooms ≤ c) where
-    pub read_place : Place.At at ≡ place_of whole
-    read_place = reading_place inv.reading (left_none top rooms used c h)
+  module _ (h : length plan ≤ c) where
+    pub read_place : Some at ≡ place_of whole
+    read_place = reading_place inv.reading (left_none top plan c h)
 
     pub read_stored : Stored whole before first list
-    read_stored = reading_stored inv.reading (left_none top rooms used c h)
+    read_stored = reading_stored inv.reading (left_none top plan c h)
 
 -- THE LOOP THAT TESTS: what is left decides.
-pub record TestingColumns (top : ℕ) (rooms used xs : List ℕ) (whole : Bool) (i c : ℕ) : Type 0 where
-  pub left : neat xs (left_at top rooms used c) i ≡ whole
-  pub room : i + (left_at top rooms used c).width ≤ length xs
+pub record TestingColumns (top : ℕ) (plan : List Column) (xs : List ℕ) (whole : Bool) (i c : ℕ) : Type 0 where
+  pub left : neat xs (left_at top plan c) i ≡ whole
+  pub room : i + (left_at top plan c).width ≤ length xs
   pub small : (n : ℕ) → get_or xs n 0 < top
 
-pub test_start : (top : ℕ) (rooms used xs : List ℕ) (i : ℕ) → i + total rooms ≤ length xs → ((n : ℕ) → get_or xs n 0 < top) → TestingColumns top rooms used xs ((columns top rooms used).tidy (part xs i (i + total rooms))) i 0
-test_start top rooms used xs i h small = record { left = rw (columns_width top rooms used); room = rw (columns_width top rooms used) h; small = small }
+pub test_start : (top : ℕ) (plan : List Column) (xs : List ℕ) (i : ℕ) → i + total plan ≤ length xs → ((n : ℕ) → get_or xs n 0 < top) → TestingColumns top plan xs ((columns top plan).tidy (part xs i (i + total plan))) i 0
+test_start top plan xs i h small = record { left = rw (columns_width top plan); room = rw (columns_width top plan) h; small = small }
 
-module _ {top : ℕ} {rooms used xs : List ℕ} {whole : Bool} {i c : ℕ} (inv : TestingColumns top rooms used xs whole i c) where
-  module _ (h : c < length rooms) where
-    pub test_room : i + get_or rooms c 0 ≤ length xs
+module _ {top : ℕ} {plan : List Column} {xs : List ℕ} {whole : Bool} {i c : ℕ} (inv : TestingColumns top plan xs whole i c) where
+  module _ (h : c < length plan) where
+    pub test_room : i + (one plan c).room ≤ length xs
     unfolding beside column
-    test_room = let r = rw (left_next top rooms used c h) at inv.room in omega arith
+    test_room = let r = rw (left_next top plan c h) at inv.room in omega arith
 
-    parted : ((column top (get_or rooms c 0) (get_or used c 0)).tidy (part xs i (i + get_or rooms c 0)) and neat xs (left_at top rooms used (c + 1)) (i + get_or rooms c 0)) ≡ whole
+    parted : ((column top (one plan c).room (one plan c).used).tidy (part xs i (i + (one plan c).room)) and neat xs (left_at top plan (c + 1)) (i + (one plan c).room)) ≡ whole
     unfolding column
-    parted = sym (neat_next xs i _ _ _ _ (left_next top rooms used c h) (columns_width top (drop (c + 1) rooms) (drop (c + 1) used))) ∙ inv.left
+    parted = sym (neat_next xs i _ _ _ _ (left_next top plan c h) (columns_width top (drop (c + 1) plan))) ∙ inv.left
 
-    pub test_over : get_or rooms c 0 < get_or used c 0 → false ≡ whole
+    pub test_over : (one plan c).room < (one plan c).used → false ≡ whole
     unfolding ◌and◌
-    test_over over = rw (column_crowded top (get_or rooms c 0) (get_or used c 0) xs i over test_room) at parted
+    test_over over = rw (column_crowded top (one plan c).room (one plan c).used xs i over test_room) at parted
 
-    module _ {z : Bool} (low : get_or used c 0 ≤ get_or rooms c 0) (answer : z ≡ all_zero (part xs (i + get_or used c 0) (i + get_or rooms c 0))) where
-      blank_left : (z and neat xs (left_at top rooms used (c + 1)) (i + get_or rooms c 0)) ≡ whole
-      blank_left = rw answer (rw (column_neat top (get_or rooms c 0) (get_or used c 0) xs i low test_room inv.small) at parted)
+    module _ {z : Bool} (low : (one plan c).used ≤ (one plan c).room) (answer : z ≡ all_zero (part xs (i + (one plan c).used) (i + (one plan c).room))) where
+      blank_left : (z and neat xs (left_at top plan (c + 1)) (i + (one plan c).room)) ≡ whole
+      blank_left = rw answer (rw (column_neat top (one plan c).room (one plan c).used xs i low test_room inv.small) at parted)
 
       pub test_dirty : not z ≡ true → false ≡ whole
       unfolding ◌and◌
       test_dirty t = rw (not-true z t) at blank_left
 
-      pub test_more : not z ≡ false → TestingColumns top rooms used xs whole (i + get_or rooms c 0) (c + 1)
+      pub test_more : not z ≡ false → TestingColumns top plan xs whole (i + (one plan c).room) (c + 1)
       unfolding ◌and◌ beside column
       test_more t =
-          let w = columns_width top (drop (c + 1) rooms) (drop (c + 1) used) in
-          let r = rw (left_next top rooms used c h) at inv.room in
+          let w = columns_width top (drop (c + 1) plan) in
+          let r = rw (left_next top plan c h) at inv.room in
           record { left = rw (not-false z t) at blank_left; room = omega arith; small = inv.small }
 
-  pub test_end : length rooms ≤ c → true ≡ whole
-  test_end h = sym (neat_none xs i (left_at top rooms used c) (left_none top rooms used c h)) ∙ inv.left
+  pub test_end : length plan ≤ c → true ≡ whole
+  test_end h = sym (neat_none xs i (left_at top plan c) (left_none top plan c h)) ∙ inv.left
 
 -- TIDY COLUMNS from column c on.
-pub record TidyColumns (top : ℕ) (rooms used xs : List ℕ) (i c : ℕ) : Type 0 where
-  pub ahead : Ahead xs (left_at top rooms used c) i
+pub record TidyColumns (top : ℕ) (plan : List Column) (xs : List ℕ) (i c : ℕ) : Type 0 where
+  pub ahead : Ahead xs (left_at top plan c) i
 
-pub tidy_start : (top : ℕ) (rooms used xs : List ℕ) (i : ℕ) → i + total rooms ≤ length xs → (columns top rooms used).tidy (part xs i (i + total rooms)) ≡ true → TidyColumns top rooms used xs i 0
-tidy_start top rooms used xs i h t = record { ahead = record { room = rw (columns_width top rooms used) h; tidy = rw (columns_width top rooms used) t } }
+pub tidy_start : (top : ℕ) (plan : List Column) (xs : List ℕ) (i : ℕ) → i + total plan ≤ length xs → (columns top plan).tidy (part xs i (i + total plan)) ≡ true → TidyColumns top plan xs i 0
+tidy_start top plan xs i h t = record { ahead = record { room = rw (columns_width top plan) h; tidy = rw (columns_width top plan) t } }
 
-module _ {top : ℕ} {rooms used xs : List ℕ} {i c : ℕ} (inv : TidyColumns top rooms used xs i c) (h : c < length rooms) where
-  next : Step xs (column top (get_or rooms c 0) (get_or used c 0)) (left_at top rooms used (c + 1)) i
-  next = step inv.ahead _ _ _ (left_next top rooms used c h) (columns_width top (drop (c + 1) rooms) (drop (c + 1) used))
+module _ {top : ℕ} {plan : List Column} {xs : List ℕ} {i c : ℕ} (inv : TidyColumns top plan xs i c) (h : c < length plan) where
+  next : Step xs (column top (one plan c).room (one plan c).used) (left_at top plan (c + 1)) i
+  next = step inv.ahead _ _ _ (left_next top plan c h) (columns_width top (drop (c + 1) plan))
 
-  pub tidy_room : i + get_or rooms c 0 ≤ length xs
+  pub tidy_room : i + (one plan c).room ≤ length xs
   unfolding column
   tidy_room = next.room
 
-  pub tidy_low : get_or used c 0 ≤ get_or rooms c 0
+  pub tidy_low : (one plan c).used ≤ (one plan c).room
   unfolding column
-  tidy_low = (tidy_column top (get_or rooms c 0) (get_or used c 0) (part xs i (i + get_or rooms c 0)) next.tidy).low
+  tidy_low = (tidy_column top (one plan c).room (one plan c).used (part xs i (i + (one plan c).room)) next.tidy).low
 
-  tidy_more : TidyColumns top rooms used xs (i + get_or rooms c 0) (c + 1)
+  tidy_more : TidyColumns top plan xs (i + (one plan c).room) (c + 1)
   unfolding column
   tidy_more = record { ahead = next.ahead }
 
   -- the column's bytes
-  tidy_bytes : written xs (column top (get_or rooms c 0) (get_or used c 0)) i ≡ bytes_of (part xs i (i + get_or used c 0))
+  tidy_bytes : written xs (column top (one plan c).room (one plan c).used) i ≡ bytes_of (part xs i (i + (one plan c).used))
   unfolding column
-  tidy_bytes = ap bytes_of (used_part top (get_or rooms c 0) (get_or used c 0) xs i tidy_low)
+  tidy_bytes = ap bytes_of (used_part top (one plan c).room (one plan c).used xs i tidy_low)
 
 -- THE LOOP THAT COUNTS.
-pub record CountingColumns (top : ℕ) (rooms used xs whole : List ℕ) (i c size : ℕ) : Type 0 where
-  pub tidy : TidyColumns top rooms used xs i c
-  pub counting : CountingShapes whole xs (left_at top rooms used c) i size
+pub record CountingColumns (top : ℕ) (plan : List Column) (xs whole : List ℕ) (i c size : ℕ) : Type 0 where
+  pub tidy : TidyColumns top plan xs i c
+  pub counting : CountingShapes whole xs (left_at top plan c) i size
 
-pub count_start : {top : ℕ} {rooms used xs : List ℕ} {i : ℕ} → TidyColumns top rooms used xs i 0 → CountingColumns top rooms used xs (bytes_of ((columns top rooms used).fields (part xs i (i + total rooms)))) i 0 0
-count_start {top} {rooms} {used} {xs} {i} t = record { tidy = t; counting = record { left = rw (columns_width top rooms used) (omega arith); few = omega arith } }
+pub count_start : {top : ℕ} {plan : List Column} {xs : List ℕ} {i : ℕ} → TidyColumns top plan xs i 0 → CountingColumns top plan xs (bytes_of ((columns top plan).fields (part xs i (i + total plan)))) i 0 0
+count_start {top} {plan} {xs} {i} t = record { tidy = t; counting = record { left = rw (columns_width top plan) (omega arith); few = omega arith } }
 
-module _ {top : ℕ} {rooms used xs whole : List ℕ} {i c size : ℕ} (inv : CountingColumns top rooms used xs whole i c size) where
-  module _ (h : c < length rooms) where
-    pub count_few : size + length (bytes_of (part xs i (i + get_or used c 0))) ≤ 10 * (i + get_or rooms c 0)
+module _ {top : ℕ} {plan : List Column} {xs whole : List ℕ} {i c size : ℕ} (inv : CountingColumns top plan xs whole i c size) where
+  module _ (h : c < length plan) where
+    pub count_few : size + length (bytes_of (part xs i (i + (one plan c).used))) ≤ 10 * (i + (one plan c).room)
     count_few =
         let l = tidy_low inv.tidy h in
         let r = tidy_room inv.tidy h in
-        let f = part_few xs i (get_or used c 0) in
+        let f = part_few xs i (one plan c).used in
         let g = inv.counting.few in
         omega arith
 
-    pub count_more : {s : ℕ} → s ≡ length (bytes_of (part xs i (i + get_or used c 0))) → CountingColumns top rooms used xs whole (i + get_or rooms c 0) (c + 1) (size + s)
+    pub count_more : {s : ℕ} → s ≡ length (bytes_of (part xs i (i + (one plan c).used))) → CountingColumns top plan xs whole (i + (one plan c).room) (c + 1) (size + s)
     unfolding column
     count_more {s} e =
         let l = tidy_low inv.tidy h in
         let r = tidy_room inv.tidy h in
-        let f = part_few xs i (get_or used c 0) in
+        let f = part_few xs i (one plan c).used in
         record {
           tidy = tidy_more inv.tidy h;
-          counting = counting_more inv.counting _ _ _ (left_next top rooms used c h) (columns_width top (drop (c + 1) rooms) (drop (c + 1) used)) (rw (tidy_bytes inv.tidy h) e) (omega arith);
+          counting = counting_more inv.counting _ _ _ (left_next top plan c h) (columns_width top (drop (c + 1) plan)) (rw (tidy_bytes inv.tidy h) e) (omega arith);
         }
 
-  pub count_end : length rooms ≤ c → size ≡ length whole
-  count_end h = counting_end inv.counting (left_none top rooms used c h)
+  pub count_end : length plan ≤ c → size ≡ length whole
+  count_end h = counting_end inv.counting (left_none top plan c h)
 
 -- THE LOOP THAT WRITES.
-pub record WritingColumns (top : ℕ) (rooms used xs whole before : List ℕ) (at i c place : ℕ) (list : List ℕ) : Type 0 where
-  pub tidy : TidyColumns top rooms used xs i c
-  pub writing : WritingShapes whole before at xs (left_at top rooms used c) i place list
+pub record WritingColumns (top : ℕ) (plan : List Column) (xs whole before : List ℕ) (at i c place : ℕ) (list : List ℕ) : Type 0 where
+  pub tidy : TidyColumns top plan xs i c
+  pub writing : WritingShapes whole before at xs (left_at top plan c) i place list
 
-pub write_start : {top : ℕ} {rooms used xs : List ℕ} {i : ℕ} (list : List ℕ) (at : ℕ) → TidyColumns top rooms used xs i 0 → at + length (bytes_of ((columns top rooms used).fields (part xs i (i + total rooms)))) ≤ length list → WritingColumns top rooms used xs (bytes_of ((columns top rooms used).fields (part xs i (i + total rooms)))) list at i 0 at list
-write_start {top} {rooms} {used} {xs} {i} list at t h = record { tidy = t; writing = rw (← columns_width top rooms used) (writing_start list at xs (columns top rooms used) i (rw (columns_width top rooms used) h)) }
+pub write_start : {top : ℕ} {plan : List Column} {xs : List ℕ} {i : ℕ} (list : List ℕ) (at : ℕ) → TidyColumns top plan xs i 0 → at + length (bytes_of ((columns top plan).fields (part xs i (i + total plan)))) ≤ length list → WritingColumns top plan xs (bytes_of ((columns top plan).fields (part xs i (i + total plan)))) list at i 0 at list
+write_start {top} {plan} {xs} {i} list at t h = record { tidy = t; writing = rw (← columns_width top plan) (writing_start list at xs (columns top plan) i (rw (columns_width top plan) h)) }
 
-module _ {top : ℕ} {rooms used xs whole before : List ℕ} {at i c place : ℕ} {list : List ℕ} (inv : WritingColumns top rooms used xs whole before at i c place list) where
+module _ {top : ℕ} {plan : List Column} {xs whole before : List ℕ} {at i c place : ℕ} {list : List ℕ} (inv : WritingColumns top plan xs whole before at i c place list) where
   pub write_long : length list ≡ length before
   write_long = writing_long inv.writing
 
-  module _ (h : c < length rooms) where
-    pub write_room : place + length (bytes_of (part xs i (i + get_or used c 0))) ≤ length list
-    write_room = rw (tidy_bytes inv.tidy h) at (writing_room inv.writing _ _ _ (left_next top rooms used c h) (columns_width top (drop (c + 1) rooms) (drop (c + 1) used)))
+  module _ (h : c < length plan) where
+    pub write_room : place + length (bytes_of (part xs i (i + (one plan c).used))) ≤ length list
+    write_room = rw (tidy_bytes inv.tidy h) at (writing_room inv.writing _ _ _ (left_next top plan c h) (columns_width top (drop (c + 1) plan)))
 
-    pub write_more : {p : ℕ} {after : List ℕ} → p ≡ place + length (bytes_of (part xs i (i + get_or used c 0))) → after ≡ splice list place (bytes_of (part xs i (i + get_or used c 0))) → WritingColumns top rooms used xs whole before at (i + get_or rooms c 0) (c + 1) p after
+    pub write_more : {p : ℕ} {after : List ℕ} → p ≡ place + length (bytes_of (part xs i (i + (one plan c).used))) → after ≡ splice list place (bytes_of (part xs i (i + (one plan c).used))) → WritingColumns top plan xs whole before at (i + (one plan c).room) (c + 1) p after
     unfolding column
     write_more {p} {after} e f =
         record {
           tidy = tidy_more inv.tidy h;
-          writing = writing_more inv.writing _ _ _ (left_next top rooms used c h) (columns_width top (drop (c + 1) rooms) (drop (c + 1) used)) (rw (tidy_bytes inv.tidy h) e) (rw (tidy_bytes inv.tidy h) f);
+          writing = writing_more inv.writing _ _ _ (left_next top plan c h) (columns_width top (drop (c + 1) plan)) (rw (tidy_bytes inv.tidy h) e) (rw (tidy_bytes inv.tidy h) f);
         }
 
-  module _ (h : length rooms ≤ c) where
+  module _ (h : length plan ≤ c) where
     pub write_place : place ≡ at + length whole
-    write_place = writing_place inv.writing (left_none top rooms used c h)
+    write_place = writing_place inv.writing (left_none top plan c h)
 
     pub write_end : list ≡ splice before at whole
-    write_end = writing_end inv.writing (left_none top rooms used c h)
+    write_end = writing_end inv.writing (left_none top plan c h)

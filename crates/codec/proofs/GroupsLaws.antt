@@ -11,12 +11,23 @@ use Rattle.std.proofs.Math.Dec.{ltb}
 use Rattle.std.proofs.Math.ListN.{drop_of_length-le}
 use Rattle.std.proofs.Math.Seq.{drop-cons}
 use borrow.Author.Tests.{ltb-true, lt-ltb, le-ltb, eqb-true, eqb-false, ne_eqb}
+use Rattle.std.proofs.lemmas.List.{get_or_default}
 use Rattle.laws.specs.Bool.{when◌then◌else◌, split}
 use Rattle.laws.specs.Splice.{splice, splice_one, splice_more}
 use Rattle.codec.specs.Read.{Read, got, bad, onward}
 use Rattle.codec.specs.Leb.{groups, leb128, parse, number_at}
 use Rattle.codec.specs.Groups.{above, followed}
 use Rattle.codec.proofs.LebLaws.{groups_some}
+
+-- The byte b stands at a place: what `get` says of it.
+pub record There (bytes : List ℕ) (at b : ℕ) : Type 0 where
+  pub low : at < length bytes
+  pub is : b ≡ get_or bytes at 0
+
+pub there : {bytes : List ℕ} {at x b : ℕ} → true ≡ ltb at (length bytes) → x ≡ get_or bytes at x → b ≡ x → There bytes at b
+there {bytes} {at} {x} h e f =
+    let l = ltb-true at (length bytes) (sym h) in
+    record { low = l; is = f ∙ e ∙ get_or_default bytes at x 0 l }
 
 -- READING. A group b in front of others.
 above_more : (low scale at b : ℕ) (r : Read ℕ) → 128 ≤ b → above low scale at (onward r (λ n size. when eqb n 0 then bad else got (b - 128 + 128 * n) (suc size))) ≡ above (low + scale * (b - 128)) (scale * 128) (at + 1) r

@@ -9,9 +9,9 @@ pub mod Zeros
 pub mod Parts
 pub mod ColumnsLaws
 pub mod PartLaws
-pub mod Loops
 pub mod ShapesLoops
 pub mod ColumnsLoops
+pub mod Loops
 pub mod SlotsLaws
 pub mod TidyLaws
 pub mod SlotSteps

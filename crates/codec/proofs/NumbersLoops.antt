@@ -1,16 +1,18 @@
 -- Numbers one behind the other in loops: read, counted, written.
 use Rattle.std.specs.Prelude.{◌≡◌, refl, get_or, set}
 use Rattle.std.proofs.Math.Path.{sym}
-use Rattle.std.proofs.Common.{ap, ◌∙◌, add-one, drop-cons}
+use Rattle.std.proofs.Common.{ap, ◌∙◌, add-one, drop-cons, take_all}
 use mathlib.Core.List.{List, [], ◌∷◌, ◌++◌, flat_map, append_assoc, append-nil}
 use Prim.Native.Nat.{ℕ, zero, suc, ◌+◌, ◌*◌, ◌-◌, ◌≤◌, ◌<◌}
 use native.Mathlib.Omega.{arith}
 use Rattle.std.proofs.Math.ListN.{length, length-append}
 use Rattle.laws.specs.Rows.{span, span_more, span_none}
+use Rattle.laws.specs.Zeros.{Dirt, dirt_start}
 use Rattle.laws.specs.Splice.{splice, splice_none, splice_one, splice_more, length_splice}
 use Rattle.codec.specs.Read.{Read, got, bad, onward}
 use Rattle.codec.specs.Leb.{leb128}
 use Rattle.codec.specs.Numbers.{bytes_of, number_below, numbers_at, part}
+use Rattle.codec.specs.Stages.{all_zero}
 use Rattle.codec.proofs.LebLaws.{leb_few}
 
 -- A PART of a list, from a place up to another.
@@ -26,6 +28,13 @@ part_none xs i k h =
     let e : k - i ≡ 0 = omega arith in
     rw e
 
+-- The whole of it.
+pub part_all : (xs : List ℕ) (k : ℕ) → length xs ≡ k → part xs 0 k ≡ xs
+unfolding part
+part_all xs k h =
+    let e : k - 0 ≡ k = omega arith in
+    rw e (take_all k xs (omega arith))
+
 -- It is the numbers that stand at its places.
 part_from : (xs : List ℕ) (m i k : ℕ) → k ≡ i + m → k ≤ length xs → part xs i k ≡ span (λ j. get_or xs j 0) i k
 part_from xs zero i k e h = part_none xs i k (omega arith) ∙ sym (span_none _ i k (omega arith))
@@ -34,6 +43,13 @@ part_from xs (suc m) i k e h =
 
 pub part_span : (xs : List ℕ) (i k : ℕ) → i ≤ k → k ≤ length xs → part xs i k ≡ span (λ j. get_or xs j 0) i k
 part_span xs i k h l = part_from xs (k - i) i k (omega arith) l
+
+-- All of it is zero: the loop over the digits of its numbers begins.
+pub zeros_start : (xs : List ℕ) (k : ℕ) {d : ℕ} → length xs ≡ k → d ≡ 0 → Dirt (λ j. get_or xs j 0) k 0 d (all_zero xs)
+zeros_start xs k e z =
+    let f : ℕ → ℕ = λ j. get_or xs j 0 in
+    let w : all_zero xs ≡ all_zero (span f 0 k) = ap all_zero (sym (part_all xs k e) ∙ part_span xs 0 k (omega arith) (omega arith)) in
+    rw (z, w) dirt_start
 
 -- Its bytes.
 part_bytes : (xs : List ℕ) (i k : ℕ) → i < k → k ≤ length xs → bytes_of (part xs i k) ≡ leb128 (get_or xs i 0) ++ bytes_of (part xs (i + 1) k)

@@ -1,11 +1,11 @@
 -- The numbers of a list from a place up to another: in two parts, and below a bound.
 use Rattle.std.specs.Prelude.{◌≡◌, Bool, true, ltb, length, get_or, take, drop}
 use Rattle.std.proofs.Math.Path.{refl, ap}
-use Rattle.std.proofs.Common.{sym, ◌∙◌, length-drop, length-take-le, take-take, drop-drop, lt-ltb}
+use Rattle.std.proofs.Common.{◌∙◌, length-drop, length-take-le, take-take, drop-drop, lt-ltb}
 use mathlib.Core.List.{List, [], ◌∷◌}
 use Prim.Native.Nat.{ℕ, zero, suc, ◌+◌, ◌-◌, ◌≤◌, ◌<◌}
 use native.Mathlib.Omega.{arith}
-use Rattle.std.proofs.Math.Seq.{take-nil}
+use Rattle.std.proofs.lemmas.List.{drop-take}
 use Rattle.laws.specs.Bool.{both, join}
 use Rattle.laws.specs.Every.{every}
 use Rattle.codec.specs.Numbers.{part, all_below}
@@ -16,11 +16,6 @@ part_long xs i k h =
     let e : i + k - i ≡ k = omega arith in
     let d = length-drop i xs in
     rw e (length-take-le k (drop i xs) (omega arith))
-
-drop_take : (a b : ℕ) (l : List ℕ) → drop a (take (a + b) l) ≡ take b (drop a l)
-drop_take zero b l = let e : 0 + b ≡ b = omega arith in rw e
-drop_take (suc a) b [] = rw (take-nil (suc a + b)) (sym (take-nil b))
-drop_take (suc a) b (x ∷ l) = let e : suc a + b ≡ suc (a + b) = omega arith in rw e (drop_take a b l)
 
 module _ (xs : List ℕ) (i a b : ℕ) where
   pub part_front : take a (part xs i (i + (a + b))) ≡ part xs i (i + a)
@@ -35,7 +30,7 @@ module _ (xs : List ℕ) (i a b : ℕ) where
   part_back =
       let e : i + (a + b) - i ≡ a + b = omega arith in
       let f : i + a + b - (i + a) ≡ b = omega arith in
-      rw (e, f) (drop_take a b (drop i xs) ∙ ap (take b) (drop-drop a i xs))
+      rw (e, f) (drop-take a b (drop i xs) ∙ ap (take b) (drop-drop a i xs))
 
 -- All pass: so do the first of them, and those behind.
 module _ {A : Type 0} (p : A → Bool) where
@@ -51,7 +46,7 @@ module _ {A : Type 0} (p : A → Bool) where
   every_drop (suc k) [] h = refl
   every_drop (suc k) (x ∷ xs) h = every_drop k xs (both _ _ h).1
 
-below_each : (top : ℕ) (xs : List ℕ) → ((n : ℕ) → get_or xs n 0 < top) → all_below top xs ≡ true
+pub below_each : (top : ℕ) (xs : List ℕ) → ((n : ℕ) → get_or xs n 0 < top) → all_below top xs ≡ true
 unfolding every
 below_each top [] h = refl
 below_each top (x ∷ xs) h = join _ _ (lt-ltb x top (h 0)) (below_each top xs (λ n. h (suc n)))

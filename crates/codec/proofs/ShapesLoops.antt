@@ -1,5 +1,5 @@
 -- Shapes one behind the other in a lent list: read, tested, counted and written.
-use Rattle.std.specs.Prelude.{◌≡◌, refl, Bool, true, ℕ, ◌+◌, ◌*◌, ◌≤◌, ◌<◌, length, get_or, take, drop}
+use Rattle.std.specs.Prelude.{◌≡◌, refl, Some, Bool, true, ℕ, ◌+◌, ◌*◌, ◌≤◌, ◌<◌, length, get_or, take, drop}
 use Rattle.std.proofs.Math.Path.{sym, ap}
 use Rattle.std.proofs.Common.{◌∙◌, length-take-le, get_or-append-add}
 use mathlib.Core.List.{List, [], ◌++◌, flat_map, append_assoc, append-nil}
@@ -8,7 +8,6 @@ use Rattle.std.proofs.Math.ListN.{length-append, get_or-append}
 use Rattle.laws.specs.Bool.{◌and◌, both}
 use Rattle.laws.specs.Every.{every}
 use Rattle.laws.specs.Splice.{splice, splice_none, splice_more, length_splice}
-use Rattle.codec.specs.declared.numbers.Place.{Place}
 use Rattle.codec.specs.Read.{Read, got, bad, onward}
 use Rattle.codec.specs.Numbers.{bytes_of, numbers_at, part}
 use Rattle.codec.specs.Stages.{Shape, numbers, beside}
@@ -89,7 +88,7 @@ module _ {bytes : List ℕ} {whole : Read (List ℕ)} {before : List ℕ} {first
     unfolding numbers numbers_at onward
     all_read = sym (rw (none, append-nil) at inv.left)
 
-    pub reading_place : Place.At at ≡ place_of whole
+    pub reading_place : Some at ≡ place_of whole
     reading_place = got_place all_read
 
     pub reading_stored : Stored whole before first list

@@ -1,6 +1,6 @@
 -- One slot: read, tested, counted, written.
 use Rattle.std.specs.Prelude.{◌≡◌, refl, true, eqb, length, get_or, take, drop, replicate, set}
-use Rattle.std.proofs.Common.{sym, ap, ◌∙◌, arith, length-set, length-append, get_or-take, get_or-drop}
+use Rattle.std.proofs.Common.{sym, ap, ◌∙◌, arith, length-set, length-append, length-drop, take_all}
 use mathlib.Core.List.{List, [], ◌∷◌, ◌++◌, flat_map, append_assoc, append-nil}
 use Prim.Native.Nat.{ℕ, suc, ◌+◌, ◌*◌, ◌-◌, ◌≤◌, ◌<◌}
 use borrow.Author.Tests.{eqb-true, eqb-false, eq-eqb, ne_eqb}
@@ -9,7 +9,7 @@ use Rattle.laws.specs.Listing.{padded}
 use Rattle.laws.specs.Splice.{splice, splice_none, splice_one, splice_more, length_splice}
 use Rattle.codec.specs.Read.{Read, got, bad, onward}
 use Rattle.codec.specs.Leb.{groups, leb128}
-use Rattle.codec.specs.Numbers.{bytes_of, number_below, numbers_at, part}
+use Rattle.codec.specs.Numbers.{bytes_of, number_below, numbers_at}
 use Rattle.codec.specs.Stages.{all_zero}
 use Rattle.codec.specs.Slots.{slot}
 use Rattle.codec.specs.Stored.{place_of, Stored, ZeroFrom}
@@ -18,7 +18,7 @@ use Rattle.codec.proofs.ReadLaws.{both_read}
 use Rattle.codec.proofs.NumbersLaws.{numbers_long}
 use Rattle.codec.proofs.Zeros.{splice_padded}
 use Rattle.codec.proofs.SlotsLaws.{slot_few}
-use Rattle.codec.proofs.Parts.{part_long, part_front, part_back, part_below}
+use Rattle.codec.proofs.Parts.{below_each}
 
 -- Zeros that are written where the list is zero change nothing.
 zeros_there : (list : List ℕ) (first k : ℕ) → ZeroFrom first list → first + k ≤ length list → list ≡ splice list first (replicate k 0)
@@ -72,14 +72,14 @@ module _ (top before after : ℕ) (bytes : List ℕ) (at : ℕ) where
         pub used_place : place_of (numbers_at top after bytes q) ≡ place_of ((slot top before after).read bytes at)
         used_place = rw used_rest (sym (same_place (numbers_at top after bytes q) (λ ys. xs ++ (lead ∷ ys))))
 
-        pub used_stored : {list list' : List ℕ} (first : ℕ) → first + (before + suc after) ≤ length list → Stored (numbers_at top after bytes q) (set (splice list first xs) (first + before) lead) (first + before + 1) list' → Stored ((slot top before after).read bytes at) list first list'
-        used_stored {list} {list'} first room s =
+        -- l₁ is the list with the numbers before the lead
+        pub used_stored : {list l₁ list' : List ℕ} → length list ≡ before + suc after → l₁ ≡ splice list 0 xs → Stored (numbers_at top after bytes q) (set l₁ before lead) (before + 1) list' → Stored ((slot top before after).read bytes at) list 0 list'
+        used_stored {list} {l₁} {list'} wide first s =
             let n = numbers_long top bytes before p xs q front in
-            let l₁ = splice list first xs in
-            let m₁ : length l₁ ≡ length list = length_splice list first xs (omega arith) in
-            let one : set l₁ (first + before) lead ≡ splice l₁ (first + before) (lead ∷ []) = splice_one l₁ (first + before) lead (omega arith) in
-            let l₂ = set l₁ (first + before) lead in
-            let two : l₂ ≡ splice list first (xs ++ (lead ∷ [])) = one ∙ splice_more list first xs (lead ∷ []) (first + before) (omega arith) (omega arith) in
+            let m₁ : length l₁ ≡ length list = rw first (length_splice list 0 xs (omega arith)) in
+            let l₂ = set l₁ before lead in
+            let two : l₂ ≡ splice list 0 (xs ++ (lead ∷ [])) =
+            splice_one l₁ before lead (omega arith) ∙ ap (λ (l : List ℕ). splice l before (lead ∷ [])) first ∙ splice_more list 0 xs (lead ∷ []) before (omega arith) (omega arith) in
             record {
               is = λ ns next e.
                   let c = both_read (numbers_at top after bytes q) (λ ys r. got (xs ++ (lead ∷ ys)) r) (sym used_rest ∙ e) in
@@ -88,39 +88,27 @@ module _ (top before after : ℕ) (bytes : List ℕ) (at : ℕ) where
                   let k = numbers_long top bytes after q c.value c.place c.one in
                   let a = length-append xs (lead ∷ []) in
                   let g = s.is c.value c.place c.one in
-                  g ∙ ap (λ (l : List ℕ). splice l (first + before + 1) c.value) two ∙ splice_more list first (xs ++ (lead ∷ [])) c.value (first + before + 1) (omega arith) (omega arith) ∙ ap (splice list first) (append_assoc xs (lead ∷ []) c.value ∙ x);
-              long = s.long ∙ length-set l₁ (first + before) lead ∙ m₁;
+                  g ∙ ap (λ (l : List ℕ). splice l (before + 1) c.value) two ∙ splice_more list 0 (xs ++ (lead ∷ [])) c.value (before + 1) (omega arith) (omega arith) ∙ ap (splice list 0) (append_assoc xs (lead ∷ []) c.value ∙ x);
+              long = s.long ∙ length-set l₁ before lead ∙ m₁;
             }
 
--- ONE SLOT OF A LIST.
-get_d_part : (xs : List ℕ) (first end i : ℕ) → first + i < end → get_or (part xs first end) i 0 ≡ get_or xs (first + i) 0
-unfolding part
-get_d_part xs first end i h = get_or-take (end - first) (drop first xs) i 0 (omega arith) ∙ get_or-drop first xs i 0
-
-module _ (top before after : ℕ) (xs : List ℕ) (first : ℕ) (room : first + (before + suc after) ≤ length xs) where
-  abbrev here : List ℕ
-  here = part xs first (first + (before + suc after))
-
+-- ONE SLOT.
+module _ (top before after : ℕ) (here : List ℕ) (wide : length here ≡ before + suc after) where
   abbrev front : List ℕ
-  front = part xs first (first + before)
+  front = take before here
 
+  -- what a slice from behind the lead on has
   abbrev back : List ℕ
-  back = part xs (first + before + 1) (first + before + 1 + after)
+  back = take (length here - (before + 1)) (drop (before + 1) here)
 
   abbrev lead : ℕ
-  lead = get_or xs (first + before) 0
-
-  lead_here : get_or here before 0 ≡ lead
-  lead_here = get_d_part xs first (first + (before + suc after)) before (omega arith)
-
-  front_here : take before here ≡ front
-  front_here = part_front xs first before (suc after)
+  lead = get_or here before 0
 
   back_here : drop (suc before) here ≡ back
   back_here =
-      let e : before + suc after ≡ suc before + after = omega arith in
-      let f : first + suc before ≡ first + before + 1 = omega arith in
-      rw (e, ← f) (part_back xs first (suc before) after)
+      let e : before + 1 ≡ suc before = omega arith in
+      let d = length-drop (before + 1) here in
+      rw (← e) (sym (take_all (length here - (before + 1)) (drop (before + 1) here) (omega arith)))
 
   -- Its bytes: those of the lead, and the others.
   abbrev whole : List ℕ
@@ -128,11 +116,11 @@ module _ (top before after : ℕ) (xs : List ℕ) (first : ℕ) (room : first + 
 
   unused_bytes : lead ≡ 0 → whole ≡ leb128 lead
   unfolding slot when◌then◌else◌ flat_map
-  unused_bytes z = rw (lead_here, eq-eqb lead 0 z, z) (append-nil (leb128 0))
+  unused_bytes z = rw (eq-eqb lead 0 z, z) (append-nil (leb128 0))
 
   used_bytes : (lead ≡ 0 → ⊥) → whole ≡ leb128 lead ++ (bytes_of front ++ bytes_of back)
   unfolding slot when◌then◌else◌ flat_map
-  used_bytes u = rw (lead_here, ne_eqb lead 0 u, front_here, back_here, bytes_append front back)
+  used_bytes u = rw (ne_eqb lead 0 u, back_here, bytes_append front back)
 
   -- How many they are.
   pub unused_size : lead ≡ 0 → 1 ≡ length whole
@@ -143,15 +131,13 @@ module _ (top before after : ℕ) (xs : List ℕ) (first : ℕ) (room : first + 
   used_size u = rw (used_bytes u, length-append, length-append) (omega arith)
 
   pub here_few : length whole ≤ 10 * (before + suc after)
-  here_few =
-      let n = part_long xs first (before + suc after) room in
-      slot_few top before after here (omega arith)
+  here_few = slot_few top before after here (omega arith)
 
   -- Whether it is tidy.
-  module _ (each : (i : ℕ) → get_or xs i 0 < top) where
+  module _ (each : (i : ℕ) → get_or here i 0 < top) where
     tidy_here : (slot top before after).tidy here ≡ (when eqb lead 0 then all_zero here else true)
     unfolding slot ◌and◌
-    tidy_here = rw (eq-eqb _ _ (part_long xs first (before + suc after) room), part_below top xs first (first + (before + suc after)) each, lead_here)
+    tidy_here = rw (eq-eqb _ _ wide, below_each top here each)
 
     pub unused_tidy : lead ≡ 0 → (slot top before after).tidy here ≡ all_zero here
     unfolding when◌then◌else◌

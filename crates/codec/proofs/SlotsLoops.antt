@@ -1,12 +1,11 @@
 -- Loops over slots.
-use Rattle.std.specs.Prelude.{◌≡◌, Bool, true, false, not, List, length}
+use Rattle.std.specs.Prelude.{◌≡◌, Some, Bool, true, false, not, List, length}
 use Rattle.std.proofs.Math.Path.{sym}
 use Rattle.std.proofs.Common.{◌∙◌, mul-suc}
 use Prim.Native.Nat.{ℕ, suc, ◌+◌, ◌*◌, ◌-◌, ◌≤◌, ◌<◌}
 use native.Mathlib.Omega.{arith}
 use Rattle.laws.specs.Bool.{◌and◌, passed, stopped}
 use Rattle.laws.specs.Splice.{splice}
-use Rattle.codec.specs.declared.numbers.Place.{Place}
 use Rattle.codec.specs.Read.{Read, bad}
 use Rattle.codec.specs.Numbers.{bytes_of, part}
 use Rattle.codec.specs.Stages.{Shape, numbers, beside}
@@ -15,6 +14,8 @@ use Rattle.codec.specs.Stored.{place_of, Stored, ZeroFrom}
 use Rattle.codec.proofs.StoredLaws.{Got}
 use Rattle.codec.proofs.SlotsLaws.{slot_long, slots_width}
 use Rattle.codec.proofs.SlotSteps.{here_few}
+use Rattle.codec.proofs.Parts.{part_long}
+use Rattle.codec.proofs.PartLaws.{put_part, part_stored}
 use Rattle.codec.proofs.ShapesLoops.{ReadingShapes, reading_start, reading_long, reading_room, reading_bad, reading_more, reading_place, reading_stored, neat, neat_next, neat_none, WritingShapes, writing_start, writing_long, writing_room, writing_more, writing_place, writing_end, CountingShapes, counting_more, counting_end}
 
 -- THE SLOTS FROM THE NTH ON: the nth, and those behind it; or none.
@@ -33,10 +34,6 @@ module _ (top before after : ℕ) {k n : ℕ} where
   left_none h =
       let e : k - n ≡ 0 = omega arith in
       rw e
-
--- Where the nth begins in the code is where the one before it ends.
-next_place : (i before after : ℕ) → i + (before + 1 + after) ≡ i + (before + suc after)
-next_place i before after = omega arith
 
 -- There is room for all of them in a list.
 pub record Room (before after k i n size : ℕ) : Type 0 where
@@ -57,8 +54,8 @@ module _ {before after k i n size : ℕ} (inv : Room before after k i n size) (h
   pub room_here : i + (before + suc after) ≤ size
   room_here = let a = next_is in omega arith
 
-  room_more : Room before after k (i + (before + 1 + after)) (n + 1) size
-  room_more = record { is = rw (next_place i before after) next_is }
+  room_more : Room before after k (i + (before + suc after)) (n + 1) size
+  room_more = record { is = next_is }
 
 -- THE LOOP THAT READS.
 pub record ReadingSlots (top before after k : ℕ) (bytes : List ℕ) (whole : Read (List ℕ)) (list₀ : List ℕ) (first at i n : ℕ) (list : List ℕ) : Type 0 where
@@ -84,14 +81,17 @@ module _ {top before after k : ℕ} {bytes : List ℕ} {whole : Read (List ℕ)}
     pub read_bad : (slot top before after).read bytes at ≡ bad → whole ≡ bad
     read_bad e = reading_bad inv.reading (slot top before after) _ _ (left_next top before after h) e
 
-    pub read_more : {next : ℕ} {list' : List ℕ} → Got ((slot top before after).read bytes at) next → Stored ((slot top before after).read bytes at) list i list' → ReadingSlots top before after k bytes whole list₀ first next (i + (before + 1 + after)) (n + 1) list'
+    -- what a read into the slot's numbers leaves of them
+    pub read_more : {next : ℕ} {after' : List ℕ} → Got ((slot top before after).read bytes at) next → Stored ((slot top before after).read bytes at) (part list i (i + (before + suc after))) 0 after' → ReadingSlots top before after k bytes whole list₀ first next (i + (before + suc after)) (n + 1) (put_part list i (i + (before + suc after)) after')
     unfolding slot
-    read_more {next} {list'} g s =
+    read_more {next} {after'} g s =
+        let w = before + suc after in
         let n₁ = slot_long top before after bytes g.value at next g.is in
-        record { reading = rw (next_place i before after) (reading_more inv.reading (slot top before after) _ _ (left_next top before after h) g.value next list' g.is n₁ (slots_width top before after (k - (n + 1))) s) }
+        let s' = part_stored list i (i + w) (omega arith) read_room (λ ns p e. let m = slot_long top before after bytes ns at p e in omega arith) s in
+        record { reading = reading_more inv.reading (slot top before after) _ _ (left_next top before after h) g.value next (put_part list i (i + w) after') g.is n₁ (slots_width top before after (k - (n + 1))) s' }
 
   module _ (h : k ≤ n) where
-    pub read_place : Place.At at ≡ place_of whole
+    pub read_place : Some at ≡ place_of whole
     read_place = reading_place inv.reading (left_none top before after h)
 
     pub read_stored : Stored whole list₀ first list
@@ -116,8 +116,8 @@ module _ {top before after k : ℕ} {xs : List ℕ} {whole : Bool} {i n : ℕ} (
     pub test_stop : not b ≡ true → false ≡ whole
     test_stop t = stopped e t _ ∙ next
 
-    pub test_more : not b ≡ false → TestingSlots top before after k xs whole (i + (before + 1 + after)) (n + 1)
-    test_more t = record { rest = rw (next_place i before after) (sym (passed e t _) ∙ next); room = room_more inv.room h }
+    pub test_more : not b ≡ false → TestingSlots top before after k xs whole (i + (before + suc after)) (n + 1)
+    test_more t = record { rest = sym (passed e t _) ∙ next; room = room_more inv.room h }
 
   pub test_end : k ≤ n → true ≡ whole
   test_end h = sym (neat_none xs i (left top before after k n) (left_none top before after h)) ∙ inv.rest
@@ -137,15 +137,15 @@ module _ {top before after k : ℕ} {xs whole : List ℕ} {i n size : ℕ} (inv 
     pub count_few : size + s ≤ 10 * (i + (before + suc after))
     count_few =
         let f = inv.counting.few in
-        let t = here_few top before after xs i (room_here inv.room h) in
+        let t = here_few top before after (part xs i (i + (before + suc after))) (part_long xs i (before + suc after) (room_here inv.room h)) in
         omega arith
 
-    pub count_more : CountingSlots top before after k xs whole (i + (before + 1 + after)) (n + 1) (size + s)
+    pub count_more : CountingSlots top before after k xs whole (i + (before + suc after)) (n + 1) (size + s)
     unfolding slot
     count_more =
-        let t = here_few top before after xs i (room_here inv.room h) in
+        let t = here_few top before after (part xs i (i + (before + suc after))) (part_long xs i (before + suc after) (room_here inv.room h)) in
         record {
-          counting = rw (next_place i before after) (counting_more inv.counting (slot top before after) _ _ (left_next top before after h) (slots_width top before after (k - (n + 1))) e (omega arith));
+          counting = counting_more inv.counting (slot top before after) _ _ (left_next top before after h) (slots_width top before after (k - (n + 1))) e (omega arith);
           room = room_more inv.room h;
         }
 
@@ -172,11 +172,11 @@ module _ {top before after k : ℕ} {xs whole list₀ : List ℕ} {at i n place 
     unfolding slot
     write_room = writing_room inv.writing (slot top before after) _ _ (left_next top before after h) (slots_width top before after (k - (n + 1)))
 
-    pub write_more : {p : ℕ} {list' : List ℕ} → p ≡ place + length (bytes_of ((slot top before after).fields (part xs i (i + (before + suc after))))) → list' ≡ splice list place (bytes_of ((slot top before after).fields (part xs i (i + (before + suc after))))) → WritingSlots top before after k xs whole list₀ at (i + (before + 1 + after)) (n + 1) p list'
+    pub write_more : {p : ℕ} {list' : List ℕ} → p ≡ place + length (bytes_of ((slot top before after).fields (part xs i (i + (before + suc after))))) → list' ≡ splice list place (bytes_of ((slot top before after).fields (part xs i (i + (before + suc after))))) → WritingSlots top before after k xs whole list₀ at (i + (before + suc after)) (n + 1) p list'
     unfolding slot
     write_more e f =
         record {
-          writing = rw (next_place i before after) (writing_more inv.writing (slot top before after) _ _ (left_next top before after h) (slots_width top before after (k - (n + 1))) e f);
+          writing = writing_more inv.writing (slot top before after) _ _ (left_next top before after h) (slots_width top before after (k - (n + 1))) e f;
           room = room_more inv.room h;
         }
 

@@ -3,7 +3,7 @@ use Rattle.std.specs.Prelude.{◌≡◌, refl, true, List, [], ◌∷◌, ◌++�
 use Rattle.std.proofs.Common.{sym, ap, ◌∙◌, append_assoc, drop-drop, eqb-true}
 use native.Mathlib.Omega.{arith}
 use Rattle.std.proofs.Math.ListN.{length, drop, replicate, length-append, length-replicate}
-use Rattle.std.proofs.lemmas.List.{replicate-append-replicate}
+use Rattle.std.proofs.lemmas.List.{drop-replicate, replicate-append-replicate}
 use Rattle.std.proofs.Math.Seq.{take_at, drop_at, length-take-le}
 use Rattle.laws.specs.Bool.{◌and◌, both}
 use Rattle.laws.specs.Every.{every}
@@ -24,11 +24,6 @@ zeros (x ∷ xs) h =
     let b = both _ _ h in
     let z = eqb-true x 0 b.0 in
     rw z (ap (λ (r : List ℕ). 0 ∷ r) (zeros xs b.1))
-
-drop_zeros : (k n : ℕ) → drop k (replicate n 0) ≡ replicate {A = ℕ} (n - k) 0
-drop_zeros zero n = let e : n - 0 ≡ n = omega arith in rw e
-drop_zeros (suc k) zero = let e : 0 - suc k ≡ 0 = omega arith in rw e
-drop_zeros (suc k) (suc n) = let e : suc n - suc k ≡ n - k = omega arith in rw e (drop_zeros k n)
 
 -- A LIST FILLED UP with zeros.
 module _ (room : ℕ) (xs : List ℕ) (low : length xs ≤ room) where
@@ -54,7 +49,7 @@ module _ (l : List ℕ) (i : ℕ) (zero_from : ZeroFrom i l) where
   zero_later : (k : ℕ) → ZeroFrom (i + k) l
   zero_later k =
       let e : length l - i - k ≡ length l - (i + k) = omega arith in
-      sym (drop-drop k i l) ∙ rw zero_from (drop_zeros k (length l - i) ∙ rw e)
+      sym (drop-drop k i l) ∙ rw zero_from (drop-replicate k (length l - i) 0 ∙ rw e)
 
   pub zero_behind : (xs : List ℕ) → i + length xs ≤ length l → ZeroFrom (i + length xs) (splice l i xs)
   unfolding splice

@@ -1,5 +1,5 @@
 -- Numbers one behind the other.
-use Rattle.std.specs.Prelude.{Bool, true, false, ℕ, zero, suc, ◌-◌, ◌^◌, ltb, take, drop}
+use Rattle.std.specs.Prelude.{Bool, ℕ, zero, suc, ◌-◌, ltb, take, drop}
 use mathlib.Core.List.{List, [], ◌∷◌, flat_map}
 use Rattle.laws.specs.Every.{every}
 use Rattle.codec.specs.Read.{Read, got, onward, tested}
@@ -16,11 +16,6 @@ number_below top bytes at = tested (λ n. ltb n top) (number_at bytes at)
 unfoldable pub numbers_at : (top k : ℕ) → List ℕ → (at : ℕ) → Read (List ℕ)
 numbers_at top zero bytes at = got [] at
 numbers_at top (suc k) bytes at = onward (number_below top bytes at) (λ n p. onward (numbers_at top k bytes p) (λ ns q. got (n ∷ ns) q))
-
--- The top of a field: it has 32 bits where it is small, otherwise 64.
-abbrev pub limit : (small : Bool) → ℕ
-limit true = 2 ^ 32
-limit false = 2 ^ 64
 
 -- Which numbers it gives.
 abbrev pub all_below : (top : ℕ) → List ℕ → Bool

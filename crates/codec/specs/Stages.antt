@@ -1,8 +1,9 @@
 -- A value of several stages: its numbers stand in a list of a fixed length, and those that are used stand in the bytes. What a stage uses hangs on the numbers of the stages before it.
-use Rattle.std.specs.Prelude.{Bool, List, [], ◌∷◌, ◌++◌, ℕ, ◌+◌, ltb, leb, eqb, length, get_or, take, drop}
+use Rattle.std.specs.Prelude.{Bool, List, [], ◌∷◌, ◌++◌, ℕ, ◌+◌, ltb, leb, eqb, length, take, drop}
 use Rattle.laws.specs.Bool.{when◌then◌else◌, ◌and◌}
 use Rattle.laws.specs.Every.{every}
 use Rattle.laws.specs.Listing.{padded}
+use Rattle.codec.specs.declared.columns.Column.{Column}
 use Rattle.codec.specs.Read.{Read, got, bad, onward}
 use Rattle.codec.specs.Numbers.{numbers_at, all_below}
 
@@ -41,13 +42,13 @@ beside one more width =
     }
 
 -- Columns one behind the other, with a room and a count for each.
-unfoldable pub total : (rooms : List ℕ) → ℕ
+unfoldable pub total : List Column → ℕ
 total [] = 0
-total (room ∷ rooms) = room + total rooms
+total (one ∷ more) = one.room + total more
 
-unfoldable pub columns : (top : ℕ) (rooms used : List ℕ) → Shape
-columns top [] used = numbers 0 0
-columns top (room ∷ rooms) used = beside (column top room (get_or used 0 0)) (λ _. columns top rooms (drop 1 used)) (total rooms)
+unfoldable pub columns : (top : ℕ) → List Column → Shape
+columns top [] = numbers 0 0
+columns top (one ∷ more) = beside (column top one.room one.used) (λ _. columns top more) (total more)
 
 -- A STAGE, by the numbers of the stages before it; and several.
 pub record Stage : Type 0 where

@@ -5,98 +5,79 @@ ghost use Rattle.codec.specs.Numbers.{bytes_of, part};
 ghost use Rattle.codec.specs.Stages.{total, columns};
 ghost use Rattle.codec.specs.Stored.{place_of, Stored, ZeroFrom};
 
-use crate::numbers::{Place, numbers_size, numbers_zero, read_numbers, write_numbers};
+use crate::numbers::{numbers_size, numbers_zero, read_numbers, write_numbers};
 
-// Columns from bytes into an array that is zero from first on.
-pub fn read_columns(
-    bytes: &[u8],
-    start: usize,
-    out: &mut [u32],
-    first: usize,
-    rooms: &[usize],
-    used: &[usize],
-) -> Place
-    requires { (first + total rooms.now ≤ length out.old) × (length used.now ≡ length rooms.now) × ZeroFrom first out.old }
-    ensures value { result ≡ place_of ((columns (2 ^ 32) rooms.now used.now).read bytes.now start) }
-    ensures stored { Stored ((columns (2 ^ 32) rooms.now used.now).read bytes.now start) out.old first out.new }
+// How many slots a column has, and how many of them are used.
+#[derive(Clone, Copy)]
+pub struct Column {
+    pub room: usize,
+    pub used: usize,
+}
+
+// Columns from bytes into an array that is zero.
+pub fn read_columns(bytes: &[u8], start: usize, out: &mut [u32], plan: &[Column]) -> Option<usize>
+    requires { (total plan.now ≤ length out.old) × ZeroFrom 0 out.old }
+    ensures value { result ≡ place_of ((columns (2 ^ 32) plan.now).read bytes.now start) }
+    ensures stored { Stored ((columns (2 ^ 32) plan.now).read bytes.now start) out.old 0 out.new }
 {
     let mut at = start;
-    let mut i = first;
-    let mut c: usize = 0;
-    while c < rooms.len() {
-        if used[c] > rooms[c] {
-            return Place::Bad;
+    let mut first: usize = 0;
+    for column in plan {
+        if column.used > column.room {
+            return None;
         }
-        let place = read_numbers(bytes, at, out, i, i + used[c]);
-        let Place::At(next) = place else {
-            return Place::Bad;
-        };
-        at = next;
-        i += rooms[c];
-        c += 1;
+        at = read_numbers(bytes, at, &mut out[first..first + column.used])?;
+        first += column.room;
     }
-    Place::At(at)
+    Some(at)
 }
 
 // Every count is within its room, and every slot that isn't used is zero.
-pub fn columns_tidy(xs: &[u32], first: usize, rooms: &[usize], used: &[usize]) -> bool
-    requires { (first + total rooms.now ≤ length xs.now) × (length used.now ≡ length rooms.now) }
-    ensures { result ≡ (columns (2 ^ 32) rooms.now used.now).tidy (part xs.now first (first + total rooms.now)) }
+pub fn columns_tidy(xs: &[u32], plan: &[Column]) -> bool
+    requires { total plan.now ≤ length xs.now }
+    ensures { result ≡ (columns (2 ^ 32) plan.now).tidy (part xs.now 0 (total plan.now)) }
 {
-    let mut i = first;
-    let mut c: usize = 0;
-    while c < rooms.len() {
-        if rooms[c] < used[c] {
+    let mut first: usize = 0;
+    for column in plan {
+        if column.room < column.used {
             return false;
         }
-        if !numbers_zero(xs, i + used[c], i + rooms[c]) {
+        if !numbers_zero(&xs[first + column.used..first + column.room]) {
             return false;
         }
-        i += rooms[c];
-        c += 1;
+        first += column.room;
     }
     true
 }
 
 // How many bytes tidy columns take.
-pub fn columns_size(xs: &[u32], first: usize, rooms: &[usize], used: &[usize]) -> usize
-    requires rooms_in_bounds { (first + total rooms.now ≤ length xs.now) × (length xs.now ≤ 65536) × (length used.now ≡ length rooms.now) }
-    requires rooms_value { (columns (2 ^ 32) rooms.now used.now).tidy (part xs.now first (first + total rooms.now)) ≡ true }
-    ensures { result ≡ length (bytes_of ((columns (2 ^ 32) rooms.now used.now).fields (part xs.now first (first + total rooms.now)))) }
+pub fn columns_size(xs: &[u32], plan: &[Column]) -> usize
+    requires in_bounds { (total plan.now ≤ length xs.now) × (length xs.now ≤ 65536) }
+    requires tidy { (columns (2 ^ 32) plan.now).tidy (part xs.now 0 (total plan.now)) ≡ true }
+    ensures { result ≡ length (bytes_of ((columns (2 ^ 32) plan.now).fields (part xs.now 0 (total plan.now)))) }
 {
     let mut size: usize = 0;
-    let mut i = first;
-    let mut c: usize = 0;
-    while c < rooms.len() {
-        size += numbers_size(xs, i, i + used[c]);
-        i += rooms[c];
-        c += 1;
+    let mut first: usize = 0;
+    for column in plan {
+        size += numbers_size(&xs[first..first + column.used]);
+        first += column.room;
     }
     size
 }
 
 // Their bytes are written from a place on. The place behind them.
-pub fn write_columns(
-    out: &mut [u8],
-    at: usize,
-    xs: &[u32],
-    first: usize,
-    rooms: &[usize],
-    used: &[usize],
-) -> usize
-    requires rooms_in_bounds { (first + total rooms.now ≤ length xs.now) × (length used.now ≡ length rooms.now) }
-    requires rooms_value { (columns (2 ^ 32) rooms.now used.now).tidy (part xs.now first (first + total rooms.now)) ≡ true }
-    requires rooms_in_bounds_2 { at + length (bytes_of ((columns (2 ^ 32) rooms.now used.now).fields (part xs.now first (first + total rooms.now)))) ≤ length out.old }
-    ensures value { result ≡ at + length (bytes_of ((columns (2 ^ 32) rooms.now used.now).fields (part xs.now first (first + total rooms.now)))) }
-    ensures out_after { out.new ≡ splice out.old at (bytes_of ((columns (2 ^ 32) rooms.now used.now).fields (part xs.now first (first + total rooms.now)))) }
+pub fn write_columns(out: &mut [u8], at: usize, xs: &[u32], plan: &[Column]) -> usize
+    requires in_bounds { total plan.now ≤ length xs.now }
+    requires tidy { (columns (2 ^ 32) plan.now).tidy (part xs.now 0 (total plan.now)) ≡ true }
+    requires fits { at + length (bytes_of ((columns (2 ^ 32) plan.now).fields (part xs.now 0 (total plan.now)))) ≤ length out.old }
+    ensures value { result ≡ at + length (bytes_of ((columns (2 ^ 32) plan.now).fields (part xs.now 0 (total plan.now)))) }
+    ensures out_after { out.new ≡ splice out.old at (bytes_of ((columns (2 ^ 32) plan.now).fields (part xs.now 0 (total plan.now)))) }
 {
     let mut place = at;
-    let mut i = first;
-    let mut c: usize = 0;
-    while c < rooms.len() {
-        place = write_numbers(out, place, xs, i, i + used[c]);
-        i += rooms[c];
-        c += 1;
+    let mut first: usize = 0;
+    for column in plan {
+        place = write_numbers(out, place, &xs[first..first + column.used]);
+        first += column.room;
     }
     place
 }

@@ -1,124 +1,181 @@
 // One number: its groups read, counted and written, and the reader that stands on lent bytes.
-ghost use Rattle.std.specs.Prelude.{◌≡◌, ◌+◌, ◌^◌, ◌≤◌, ◌<◌, length};
+ghost use Rattle.std.specs.Prelude.{◌≡◌, ◌+◌, ◌^◌, ◌≤◌, ◌<◌, ℕ, List, length, get_or, set, bit_or, refl};
 ghost use Rattle.laws.specs.Splice.{splice};
 ghost use Rattle.codec.specs.Leb.{leb128, number_at};
-ghost use Rattle.codec.specs.Numbers.{number_below, limit};
+ghost use Rattle.codec.specs.Numbers.{number_below};
 ghost use Rattle.codec.specs.Stored.{number_of, behind};
 ghost use Rattle.codec.specs.Groups.{followed};
+ghost use Rattle.std.proofs.Common.{rules};
+ghost use Rattle.std.proofs.lemmas.List.{get_or_default};
 
-// A number and the place behind it; or the bytes there are bad.
+// A number and the place behind it.
 #[derive(Clone, Copy)]
-pub enum Number {
-    Value { value: u64, next: usize },
-    Bad,
+pub struct Number {
+    pub value: u64,
+    pub next: usize,
 }
 
-fn wide(x: u8) -> u64
-    ensures { result ≡ x }
-{
-    x as u64
-}
-
-// The groups behind a first one whose seven bits are low.
-fn following(bytes: &[u8], start: usize, low: u64) -> Number
+// The groups behind a first one whose seven bits are low. None: the bytes are bad.
+fn following(bytes: &[u8], start: usize, low: u64) -> Option<Number>
     requires { low < 128 }
     ensures { result ≡ number_of (followed low bytes.now start) }
 {
     let mut value = low;
     let mut scale: u64 = 128;
     let mut at = start;
-    let mut i: usize = 1;
-    while i < 9 {
-        if bytes.len() <= at {
-            return Number::Bad;
-        }
-        let b = wide(bytes[at]);
+    for _group in 1..9u8 {
+        let b = u64::from(*bytes.get(at)?);
         if b == 0 {
-            return Number::Bad;
+            return None;
         }
         if b < 128 {
-            return Number::Value {
+            return Some(Number {
                 value: value + scale * b,
                 next: at + 1,
-            };
+            });
         }
-        value = value + scale * (b - 128);
-        scale = scale * 128;
+        value += scale * (b - 128);
+        scale *= 128;
         at += 1;
-        i += 1;
     }
-    if bytes.len() <= at {
-        return Number::Bad;
-    }
-    if bytes[at] == 1 {
-        return Number::Value {
+    let last = *bytes.get(at)?;
+    if last == 1 {
+        return Some(Number {
             value: value + scale,
             next: at + 1,
-        };
+        });
     }
-    Number::Bad
+    None
 }
 
 // The number at a place.
-pub fn number_at(bytes: &[u8], at: usize) -> Number
+pub fn number_at(bytes: &[u8], at: usize) -> Option<Number>
     ensures { result ≡ number_of (number_at bytes.now at) }
 {
-    if bytes.len() <= at {
-        return Number::Bad;
-    }
-    let b = wide(bytes[at]);
+    let b = u64::from(*bytes.get(at)?);
     if b < 128 {
-        return Number::Value {
+        return Some(Number {
             value: b,
             next: at + 1,
-        };
+        });
     }
     following(bytes, at + 1, b - 128)
 }
 
 // The number of 32 bits at a place. It isn't a test behind number_at, so that `following` is called from two places: the compiler
 // then leaves it outside the loops that read, and a number of one byte takes no call.
-fn small_at(bytes: &[u8], at: usize) -> Number
+fn small_at(bytes: &[u8], at: usize) -> Option<Number>
     ensures { result ≡ number_of (number_below (2 ^ 32) bytes.now at) }
 {
-    if bytes.len() <= at {
-        return Number::Bad;
-    }
-    let first = wide(bytes[at]);
+    let first = u64::from(*bytes.get(at)?);
     if first < 128 {
-        return Number::Value {
+        return Some(Number {
             value: first,
             next: at + 1,
-        };
+        });
     }
-    let number = following(bytes, at + 1, first - 128);
-    let Number::Value { value, next } = number else {
-        return Number::Bad;
-    };
-    if 0x1_0000_0000 <= value {
-        return Number::Bad;
+    let number = following(bytes, at + 1, first - 128)?;
+    if 0x1_0000_0000 <= number.value {
+        return None;
     }
-    Number::Value { value, next }
+    Some(number)
 }
 
-// The number at a place: one of 32 bits where it is small, or of 64.
-fn number_within(bytes: &[u8], at: usize, small: bool) -> Number
-    ensures { result ≡ number_of (number_below (limit small) bytes.now at) }
-{
-    if small {
-        return small_at(bytes, at);
-    }
-    number_at(bytes, at)
+// Numbers of 32 or of 64 bits: what a number of the type is, what a list of them is, and what all of them are below.
+pub trait Unsigned: Copy {
+    ghost as_number: { Self → ℕ };
+
+    ghost as_numbers: { List Self → List ℕ };
+
+    ghost top: { ℕ };
+
+    fn widened(self) -> u64
+        ensures { result ≡ as_number self };
+
+    fn narrowed(number: u64) -> Self
+        requires { number < top }
+        ensures { as_number result ≡ number };
+
+    // The bits of both.
+    fn joined(self, other: Self) -> Self
+        ensures { as_number result ≡ bit_or (as_number self) (as_number other) };
+
+    // The number at a place of bytes.
+    fn read_at(bytes: &[u8], at: usize) -> Option<Number>
+        ensures { result ≡ number_of (number_below top bytes.now at) };
+
+    // There is one; a list is as long as that of its numbers, and has them at their places.
+    ghost some: { 0 < top };
+
+    ghost as_long: { (xs : List Self) → length (as_numbers xs) ≡ length xs };
+
+    ghost each: { (xs : List Self) (i : ℕ) (d : Self) → i < length xs → get_or (as_numbers xs) i 0 ≡ as_number (get_or xs i d) };
+
+    ghost set_in: { (xs : List Self) (i : ℕ) (x : Self) → as_numbers (set xs i x) ≡ set (as_numbers xs) i (as_number x) };
 }
 
-// The place behind a number; the old one where the bytes are bad.
-fn behind(number: Number, at: usize) -> usize
-    ensures { result ≡ behind number at }
-{
-    match number {
-        Number::Value { value, next } => next,
-        Number::Bad => at,
+impl Unsigned for u32 {
+    ghost as_number = { λ x. x };
+
+    ghost as_numbers = { λ xs. xs };
+
+    ghost top = { 2 ^ 32 };
+
+    fn widened(self) -> u64 {
+        u64::from(self)
     }
+
+    fn narrowed(number: u64) -> u32 {
+        number as u32
+    }
+
+    fn joined(self, other: u32) -> u32 {
+        self | other
+    }
+
+    fn read_at(bytes: &[u8], at: usize) -> Option<Number> {
+        small_at(bytes, at)
+    }
+
+    ghost some = { Prim.search rules };
+
+    ghost as_long = { λ xs. refl };
+
+    ghost each = { λ xs i d h. get_or_default xs i 0 d h };
+
+    ghost set_in = { λ xs i x. refl };
+}
+
+impl Unsigned for u64 {
+    ghost as_number = { λ x. x };
+
+    ghost as_numbers = { λ xs. xs };
+
+    ghost top = { 2 ^ 64 };
+
+    fn widened(self) -> u64 {
+        self
+    }
+
+    fn narrowed(number: u64) -> u64 {
+        number
+    }
+
+    fn joined(self, other: u64) -> u64 {
+        self | other
+    }
+
+    fn read_at(bytes: &[u8], at: usize) -> Option<Number> {
+        number_at(bytes, at)
+    }
+
+    ghost some = { Prim.search rules };
+
+    ghost as_long = { λ xs. refl };
+
+    ghost each = { λ xs i d h. get_or_default xs i 0 d h };
+
+    ghost set_in = { λ xs i x. refl };
 }
 
 // A reader that stands on lent bytes and moves along them.
@@ -136,33 +193,33 @@ impl<'a> Reader<'a> {
     }
 
     // Takes the field where the reader stands and moves on behind it. Where the bytes are bad it stays.
-    pub fn take(&mut self, small: bool) -> Number
-        ensures value { result ≡ number_of (number_below (limit small) self.old.bytes.now self.old.at) }
+    pub fn take<T: Unsigned>(&mut self) -> Option<Number>
+        ensures value { result ≡ number_of (number_below T.top self.old.bytes.now self.old.at) }
         ensures bytes_unchanged { (self.new.bytes ≡ self.old.bytes) × (self.new.at ≡ behind result self.old.at) }
     {
-        let at = self.at;
-        let number = number_within(self.bytes, at, small);
-        self.at = behind(number, at);
-        number
+        let number = T::read_at(self.bytes, self.at)?;
+        self.at = number.next;
+        Some(number)
     }
 }
 
 // The field at a place: a reader is set there and takes it.
-pub fn field(bytes: &[u8], at: usize, small: bool) -> Number
-    ensures { result ≡ number_of (number_below (limit small) bytes.now at) }
+pub fn field<T: Unsigned>(bytes: &[u8], at: usize) -> Option<Number>
+    ensures { result ≡ number_of (number_below T.top bytes.now at) }
 {
     let mut reader = Reader::new(bytes, at);
-    reader.take(small)
+    reader.take::<T>()
 }
 
 // How many bytes a number takes.
+// Kept: here and in write_number the number itself says how often the loop runs, so there is no range to go over (d).
 pub fn number_size(n: u64) -> usize
     ensures { result ≡ length (leb128 n) }
 {
     let mut size: usize = 1;
     let mut rest = n;
     while 128 <= rest {
-        rest = rest / 128;
+        rest /= 128;
         size += 1;
     }
     size
@@ -178,7 +235,7 @@ pub fn write_number(out: &mut [u8], at: usize, n: u64) -> usize
     let mut rest = n;
     while 128 <= rest {
         out[place] = (rest % 128) as u8 + 128;
-        rest = rest / 128;
+        rest /= 128;
         place += 1;
     }
     out[place] = rest as u8;

@@ -1,143 +1,59 @@
 // Numbers one behind the other, of 32 or of 64 bits: read into a lent array, counted, and written from one.
 ghost use Rattle.std.specs.Prelude.{◌≡◌, ◌+◌, ◌-◌, ◌^◌, ◌≤◌, length};
 ghost use Rattle.laws.specs.Splice.{splice};
-ghost use Rattle.codec.specs.Numbers.{bytes_of, numbers_at, part};
+ghost use Rattle.codec.specs.Numbers.{bytes_of, numbers_at};
 ghost use Rattle.codec.specs.Stages.{all_zero};
 ghost use Rattle.codec.specs.Stored.{place_of, Stored};
 
-use crate::number::{Number, field, number_size, write_number};
+use crate::number::{Reader, Unsigned, number_size, write_number};
 
-// The place behind what was read; or the bytes are bad.
-#[derive(Clone, Copy)]
-pub enum Place {
-    At(usize),
-    Bad,
-}
+// Kept: bytes and a place go in, the next place comes out, and `?` hands it on; by a lent Reader each contract would say two things more (d).
 
-fn wide(x: u32) -> u64
-    ensures { result ≡ x }
+// Numbers into all places of an array. The place behind them; None: the bytes are bad.
+pub fn read_numbers<T: Unsigned>(bytes: &[u8], start: usize, out: &mut [T]) -> Option<usize>
+    ensures value { result ≡ place_of (numbers_at T.top (length out.old) bytes.now start) }
+    ensures stored { Stored (numbers_at T.top (length out.old) bytes.now start) (T.as_numbers out.old) 0 (T.as_numbers out.new) }
 {
-    x as u64
-}
-
-// Numbers into the places of an array from first up to end.
-pub fn read_numbers(bytes: &[u8], start: usize, out: &mut [u32], first: usize, end: usize) -> Place
-    requires { (first ≤ end) × (end ≤ length out.old) }
-    ensures value { result ≡ place_of (numbers_at (2 ^ 32) (end - first) bytes.now start) }
-    ensures stored { Stored (numbers_at (2 ^ 32) (end - first) bytes.now start) out.old first out.new }
-{
-    let mut at = start;
-    let mut i = first;
-    while i < end {
-        let number = field(bytes, at, true);
-        let Number::Value { value, next } = number else {
-            return Place::Bad;
-        };
-        out[i] = value as u32;
-        at = next;
-        i += 1;
+    let mut reader = Reader::new(bytes, start);
+    for x in out.iter_mut() {
+        let number = reader.take::<T>()?;
+        *x = T::narrowed(number.value);
     }
-    Place::At(at)
+    Some(reader.at)
 }
 
-pub fn read_longs(bytes: &[u8], start: usize, out: &mut [u64], first: usize, end: usize) -> Place
-    requires { (first ≤ end) × (end ≤ length out.old) }
-    ensures value { result ≡ place_of (numbers_at (2 ^ 64) (end - first) bytes.now start) }
-    ensures stored { Stored (numbers_at (2 ^ 64) (end - first) bytes.now start) out.old first out.new }
-{
-    let mut at = start;
-    let mut i = first;
-    while i < end {
-        let number = field(bytes, at, false);
-        let Number::Value { value, next } = number else {
-            return Place::Bad;
-        };
-        out[i] = value;
-        at = next;
-        i += 1;
-    }
-    Place::At(at)
-}
-
-// How many bytes the numbers from first up to end take.
-pub fn numbers_size(xs: &[u32], first: usize, end: usize) -> usize
-    requires { (first ≤ end) × (end ≤ length xs.now) × (end ≤ 65536) }
-    ensures { result ≡ length (bytes_of (part xs.now first end)) }
+// How many bytes the numbers take.
+pub fn numbers_size<T: Unsigned>(xs: &[T]) -> usize
+    requires { length xs.now ≤ 65536 }
+    ensures { result ≡ length (bytes_of (T.as_numbers xs.now)) }
 {
     let mut size: usize = 0;
-    let mut i = first;
-    while i < end {
-        size += number_size(wide(xs[i]));
-        i += 1;
-    }
-    size
-}
-
-pub fn longs_size(xs: &[u64], first: usize, end: usize) -> usize
-    requires { (first ≤ end) × (end ≤ length xs.now) × (end ≤ 65536) }
-    ensures { result ≡ length (bytes_of (part xs.now first end)) }
-{
-    let mut size: usize = 0;
-    let mut i = first;
-    while i < end {
-        size += number_size(xs[i]);
-        i += 1;
+    for x in xs {
+        size += number_size(x.widened());
     }
     size
 }
 
 // Their bytes are written from a place on. The place behind them.
-pub fn write_numbers(out: &mut [u8], at: usize, xs: &[u32], first: usize, end: usize) -> usize
-    requires { (first ≤ end) × (end ≤ length xs.now) × (at + length (bytes_of (part xs.now first end)) ≤ length out.old) }
-    ensures value { result ≡ at + length (bytes_of (part xs.now first end)) }
-    ensures out_after { out.new ≡ splice out.old at (bytes_of (part xs.now first end)) }
+pub fn write_numbers<T: Unsigned>(out: &mut [u8], at: usize, xs: &[T]) -> usize
+    requires { at + length (bytes_of (T.as_numbers xs.now)) ≤ length out.old }
+    ensures value { result ≡ at + length (bytes_of (T.as_numbers xs.now)) }
+    ensures out_after { out.new ≡ splice out.old at (bytes_of (T.as_numbers xs.now)) }
 {
     let mut place = at;
-    let mut i = first;
-    while i < end {
-        place = write_number(out, place, wide(xs[i]));
-        i += 1;
+    for x in xs {
+        place = write_number(out, place, x.widened());
     }
     place
 }
 
-pub fn write_longs(out: &mut [u8], at: usize, xs: &[u64], first: usize, end: usize) -> usize
-    requires { (first ≤ end) × (end ≤ length xs.now) × (at + length (bytes_of (part xs.now first end)) ≤ length out.old) }
-    ensures value { result ≡ at + length (bytes_of (part xs.now first end)) }
-    ensures out_after { out.new ≡ splice out.old at (bytes_of (part xs.now first end)) }
+// The numbers are zero. One pass without a test, so that the compiler makes it a vector loop.
+pub fn numbers_zero<T: Unsigned>(xs: &[T]) -> bool
+    ensures { result ≡ all_zero (T.as_numbers xs.now) }
 {
-    let mut place = at;
-    let mut i = first;
-    while i < end {
-        place = write_number(out, place, xs[i]);
-        i += 1;
+    let mut dirt = T::narrowed(0);
+    for x in xs {
+        dirt = dirt.joined(*x);
     }
-    place
-}
-
-// The numbers from first up to end are zero. One pass without a test, so that the compiler makes it a vector loop.
-pub fn numbers_zero(xs: &[u32], first: usize, end: usize) -> bool
-    requires { (first ≤ end) × (end ≤ length xs.now) }
-    ensures { result ≡ all_zero (part xs.now first end) }
-{
-    let mut dirt: u32 = 0;
-    let mut i = first;
-    while i < end {
-        dirt = dirt | xs[i];
-        i += 1;
-    }
-    dirt == 0
-}
-
-pub fn longs_zero(xs: &[u64], first: usize, end: usize) -> bool
-    requires { (first ≤ end) × (end ≤ length xs.now) }
-    ensures { result ≡ all_zero (part xs.now first end) }
-{
-    let mut dirt: u64 = 0;
-    let mut i = first;
-    while i < end {
-        dirt = dirt | xs[i];
-        i += 1;
-    }
-    dirt == 0
+    dirt.widened() == 0
 }

@@ -1,20 +1,19 @@
 -- The form of a sheet in the parts that the code tests, and the loops over them.
-use Rattle.std.specs.Prelude.{◌≡◌, Bool, true, false, not, ◌&&◌, List, ltb, eqb}
+use Rattle.std.specs.Prelude.{◌≡◌, refl, Bool, true, false, ◌&&◌, List, [], ◌∷◌, length, get_or, ltb, leb, eqb}
+use Rattle.std.specs.Bool.{MatchBool}
+use Rattle.std.specs.List.Sorted.{IsNonDecreasing}
 use Rattle.std.proofs.Math.Path.{sym}
 use Rattle.std.proofs.Common.{◌∙◌, arith}
 use Prim.Native.Nat.{ℕ, zero, suc, ◌+◌, ◌-◌, ◌≤◌, ◌<◌}
-use borrow.Author.Tests.{ltb-true, ltb-false}
-use Rattle.laws.specs.Bool.{when◌then◌else◌, ◌and◌, and_true, strict_and, and_left, split, passed, stopped}
+use borrow.Author.Tests.{ltb-true, ltb-false, le-leb, lt-leb}
+use Rattle.laws.specs.Bool.{when◌then◌else◌, ◌and◌, and_true, strict_and, and_left, split}
 use Rattle.laws.specs.Rows.{span, span_more, span_none}
-use Rattle.laws.specs.First.{Seek}
-use Rattle.laws.specs.Every.{every, every_then, every_rows}
+use Rattle.laws.specs.Every.{every, every_rows}
 use Rattle.workflow.specs.Code.{activity, await_signal, complete, fail}
 use Rattle.workflow.specs.Layout as layout
 use Rattle.workflow.specs.View.{Workflow, workflow, cell, node_at, action_at, route_at, limit_at, declared_at, node_rows, action_rows, route_rows, limit_rows, declared_rows, node_table, route_table, limit_table, action_table, declared_table, table_blank, blank}
 use Rattle.workflow.specs.RowLaws.{route_row, limit_row, declared_row}
 use Rattle.workflow.specs.declared.Node.{Node}
-use Rattle.graph.specs.declared.form.Sort.{Sort}
-use Rattle.graph.specs.declared.form.Sort.TheVariants.{Nodes, Actions, Routes, Limits, Declared}
 use Rattle.graph.specs.Form.{counts_fit, formed_node, formed_action, formed_route, formed_limit, formed_declared, chained_from, chained, ascending, rising, form}
 
 -- THE PARTS. Each sort of rows by itself.
@@ -41,37 +40,15 @@ pub blank_parts : (w : List ℕ) → blank w ≡ (table_blank w node_table and t
 unfolding blank every
 blank_parts w = simp (← and_true)
 
--- A row of each sort, and all rows of a sort.
-unfoldable pub formed_row : List ℕ → Sort → (row : ℕ) → Bool
-formed_row w Nodes j = formed_node (node_at w j)
-formed_row w Actions j = formed_action (action_at w j)
-formed_row w Routes j = formed_route (workflow w) (route_at w j)
-formed_row w Limits j = formed_limit (workflow w) (limit_at w j)
-formed_row w Declared j = formed_declared (workflow w) (declared_at w j)
-
-unfoldable pub formed_rows : List ℕ → Sort → (count : ℕ) → Bool
-formed_rows w s k = every (formed_row w s) (span (λ j. j) 0 k)
-
+-- All rows of a sort, by their places.
 module _ (w : List ℕ) where
-  pub all_nodes : formed_rows w Nodes (node_rows w) ≡ nodes_formed (workflow w)
-  unfolding formed_rows formed_row nodes_formed
+  pub all_nodes : every (λ j. formed_node (node_at w j)) (span (λ j. j) 0 (node_rows w)) ≡ nodes_formed (workflow w)
+  unfolding nodes_formed
   all_nodes = sym (every_rows formed_node (node_at w) (node_rows w))
 
-  pub all_actions : formed_rows w Actions (action_rows w) ≡ actions_formed (workflow w)
-  unfolding formed_rows formed_row actions_formed
+  pub all_actions : every (λ j. formed_action (action_at w j)) (span (λ j. j) 0 (action_rows w)) ≡ actions_formed (workflow w)
+  unfolding actions_formed
   all_actions = sym (every_rows formed_action (action_at w) (action_rows w))
-
-  all_routes : formed_rows w Routes (route_rows w) ≡ every (formed_route (workflow w)) (workflow w).routes
-  unfolding formed_rows formed_row
-  all_routes = sym (every_rows (formed_route (workflow w)) (route_at w) (route_rows w))
-
-  all_limits : formed_rows w Limits (limit_rows w) ≡ every (formed_limit (workflow w)) (workflow w).limits
-  unfolding formed_rows formed_row
-  all_limits = sym (every_rows (formed_limit (workflow w)) (limit_at w) (limit_rows w))
-
-  all_declared : formed_rows w Declared (declared_rows w) ≡ every (formed_declared (workflow w)) (workflow w).declared
-  unfolding formed_rows formed_row
-  all_declared = sym (every_rows (formed_declared (workflow w)) (declared_at w) (declared_rows w))
 
 -- Rows in order, by their places.
 module _ {A : Type 0} (r : A → A → Bool) (f : ℕ → A) (s : ℕ → ℕ → Bool) (k : ℕ) (alike : (i j : ℕ) → i < k → j < k → r (f i) (f j) ≡ s i j) where
@@ -93,7 +70,7 @@ unfoldable pub rows_ascend : List ℕ → (major minor count : ℕ) → Bool
 rows_ascend w a b k = ascending (cell w a) (cell w b) (span (λ j. j) 0 k)
 
 unfoldable pub rows_rise : List ℕ → (key count : ℕ) → Bool
-rows_rise w a k = rising (cell w a) (span (λ j. j) 0 k)
+rows_rise w a k = rising (λ x. x) (span (cell w a) 0 k)
 
 module _ (w : List ℕ) where
   pub routes_ascending : rows_ascend w layout.route_node layout.route_outcome (route_rows w) ≡ ascending (λ x. x.node) (λ x. x.outcome) (workflow w).routes
@@ -106,20 +83,22 @@ module _ (w : List ℕ) where
 
   pub declared_rising : rows_rise w layout.declared_action (declared_rows w) ≡ rising (λ x. x.action) (workflow w).declared
   unfolding rows_rise
-  declared_rising = sym (chained_rows _ (declared_at w) _ (declared_rows w) (λ i j g h. rw (declared_row w i g, declared_row w j h)))
+  declared_rising =
+      chained_rows leb (cell w layout.declared_action) _ (declared_rows w) (λ i j g h. refl)
+      ∙ sym (chained_rows _ (declared_at w) _ (declared_rows w) (λ i j g h. rw (declared_row w i g, declared_row w j h)))
 
   -- the order, then each row
-  pub routes_parts : (rows_ascend w layout.route_node layout.route_outcome (route_rows w) and formed_rows w Routes (route_rows w)) ≡ routes_formed (workflow w)
+  pub routes_parts : (rows_ascend w layout.route_node layout.route_outcome (route_rows w) and every (λ j. formed_route (workflow w) (route_at w j)) (span (λ j. j) 0 (route_rows w))) ≡ routes_formed (workflow w)
   unfolding routes_formed
-  routes_parts = rw (routes_ascending, all_routes w)
+  routes_parts = rw (routes_ascending, every_rows (formed_route (workflow w)) (route_at w) (route_rows w))
 
-  pub limits_parts : (rows_ascend w layout.limit_node layout.limit_outcome (limit_rows w) and formed_rows w Limits (limit_rows w)) ≡ limits_formed (workflow w)
+  pub limits_parts : (rows_ascend w layout.limit_node layout.limit_outcome (limit_rows w) and every (λ j. formed_limit (workflow w) (limit_at w j)) (span (λ j. j) 0 (limit_rows w))) ≡ limits_formed (workflow w)
   unfolding limits_formed
-  limits_parts = rw (limits_ascending, all_limits w)
+  limits_parts = rw (limits_ascending, every_rows (formed_limit (workflow w)) (limit_at w) (limit_rows w))
 
-  pub declared_parts : (rows_rise w layout.declared_action (declared_rows w) and formed_rows w Declared (declared_rows w)) ≡ declared_formed (workflow w)
+  pub declared_parts : (rows_rise w layout.declared_action (declared_rows w) and every (λ j. formed_declared (workflow w) (declared_at w j)) (span (λ j. j) 0 (declared_rows w))) ≡ declared_formed (workflow w)
   unfolding declared_formed
-  declared_parts = rw (declared_rising, all_declared w)
+  declared_parts = rw (declared_rising, every_rows (formed_declared (workflow w)) (declared_at w) (declared_rows w))
 
 -- A node of each kind.
 module _ (x : Node) where
@@ -139,38 +118,35 @@ module _ (x : Node) where
   unfolding formed_node when◌then◌else◌
   fail_fits h = rw h (simp and_left (simp strict_and))
 
--- THE LOOPS. All rows pass: a search for one that does not.
-pub every_start : {A : Type 0} (p : A → Bool) {f : ℕ → A} {k : ℕ} → Seek (λ x. not (p x)) (λ _ _. false) true f k 0 (every p (span f 0 k))
-every_start {A} p {f} {k} = record { left = every_then p true 0 (span f 0 k) ∙ sym (and_true (every p (span f 0 k))) }
-
--- Rows in order, from 1 to k: at i, the whole answer w is what is left to test behind the row before.
-pub record Ordering (r : ℕ → ℕ → Bool) (k i : ℕ) (w : Bool) : Type 0 where
-  pub start : 1 ≤ i
-  pub left : chained_from r (i - 1) (span (λ j. j) i k) ≡ w
-
-pub ordering_start : (r : ℕ → ℕ → Bool) (k : ℕ) → Ordering r k 1 (chained r (span (λ j. j) 0 k))
-unfolding chained chained_from
-ordering_start r k = record { start = omega arith; left = one_more_row }
+-- Rows in order: from 1 on each with the row before.
+pub chained_places : (r : ℕ → ℕ → Bool) (k : ℕ) → every (λ i. r (i - 1) i) (span (λ j. j) 1 k) ≡ chained r (span (λ j. j) 0 k)
+unfolding chained every chained_from
+chained_places r k =
+    split (ltb 0 k)
+    (λ e. let h = ltb-true 0 k e in rw (span_more (λ j. j) 0 k h) (from (k - 1) 0 (omega arith)))
+    (λ e. let h = ltb-false 0 k e in rw (span_none (λ j. j) 0 k h, span_none (λ j. j) 1 k (omega arith)))
   where
-    one_more_row : chained_from r (1 - 1) (span (λ j. j) 1 k) ≡ chained r (span (λ j. j) 0 k)
-    one_more_row =
-        split (ltb 0 k)
-        (λ e. rw (span_more (λ j. j) 0 k (ltb-true 0 k e)))
-        (λ e. let h = ltb-false 0 k e in rw (span_none (λ j. j) 0 k h, span_none (λ j. j) 1 k (omega arith)))
+    from : (m i : ℕ) → k ≡ i + 1 + m → every (λ i. r (i - 1) i) (span (λ j. j) (i + 1) k) ≡ chained_from r i (span (λ j. j) (i + 1) k)
+    from zero i e = rw (span_none (λ j. j) (i + 1) k (omega arith))
+    from (suc m) i e =
+        let z : i + 1 - 1 ≡ i = omega arith in
+        rw (span_more (λ j. j) (i + 1) k (omega arith), z, from m (i + 1) (omega arith))
 
-module _ {r : ℕ → ℕ → Bool} {k i : ℕ} {w : Bool} (inv : Ordering r k i w) where
-  row_left : i < k → (r (i - 1) i and chained_from r i (span (λ j. j) (i + 1) k)) ≡ w
-  unfolding chained_from
-  row_left h = rw (span_more (λ j. j) i k h) at inv.left
+-- Numbers in order, as `is_sorted` says it.
+in_order : (x : ℕ) (xs : List ℕ) → ((k d : ℕ) → k + 1 < length (x ∷ xs) → get_or (x ∷ xs) k d ≤ get_or (x ∷ xs) (suc k) d) → true ≡ chained_from leb x xs
+unfolding chained_from ◌and◌
+in_order x [] h = refl
+in_order x (y ∷ xs) h = rw (le-leb x y (h 0 0 (omega arith))) (in_order y xs (λ k d l. h (suc k) d (omega arith)))
 
-  pub ordering_stop : {b : Bool} → i < k → b ≡ r (i - 1) i → not b ≡ true → false ≡ w
-  ordering_stop h e t = stopped e t _ ∙ row_left h
+out_of_order : (k x : ℕ) (xs : List ℕ) → k + 1 < length (x ∷ xs) → get_or (x ∷ xs) (suc k) 0 < get_or (x ∷ xs) k 0 → false ≡ chained_from leb x xs
+unfolding chained_from ◌and◌
+out_of_order k x [] l h = absurd (omega arith)
+out_of_order zero x (y ∷ xs) l h = rw (lt-leb x y h)
+out_of_order (suc k) x (y ∷ xs) l h = split (leb x y) (λ t. rw t (out_of_order k y xs (omega arith) h)) (λ t. rw t)
 
-  pub ordering_next : {b : Bool} → i < k → b ≡ r (i - 1) i → not b ≡ false → Ordering r k (i + 1) w
-  ordering_next h e t =
-      let z : i + 1 - 1 ≡ i = omega arith in
-      record { start = omega arith; left = rw z (sym (passed e t _) ∙ row_left h) }
-
-  pub ordering_end : k ≤ i → true ≡ w
-  unfolding chained_from
-  ordering_end h = rw (span_none (λ j. j) i k h) at inv.left
+pub sorted_rises : (xs : List ℕ) (r : Bool) → MatchBool r (IsNonDecreasing xs) ((k : ℕ) × (k + 1 < length xs) × ((d : ℕ) → get_or xs (k + 1) d < get_or xs k d)) → r ≡ chained leb xs
+unfolding chained
+sorted_rises [] true h = refl
+sorted_rises [] false h = absurd (omega (arith, h.1))
+sorted_rises (x ∷ xs) true h = in_order x xs (λ k d l. h k (suc k) d (omega arith) (omega arith))
+sorted_rises (x ∷ xs) false h = let e : h.0 + 1 ≡ suc h.0 = omega arith in out_of_order h.0 x xs h.1 (rw e at (h.2 0))

@@ -12,5 +12,6 @@ pub mod Reach
 pub mod ReachLaws
 pub mod FormLaws
 pub mod SearchLaws
+pub mod RowsOf
 pub mod RulesLaws
 pub mod Stages

@@ -1,5 +1,5 @@
 -- How the sets of 14 and 15 are found: a mask of routes for each node, a walk that adds each mask once, and the lowest zero of a set.
-use Rattle.std.specs.Prelude.{◌≡◌, refl, Bool, true, false, not, ℕ, zero, suc, ◌+◌, ◌-◌, ◌/◌, ◌%◌, ◌^◌, ◌≤◌, ◌<◌, length, get_or, set, replicate, eqb, leb, Option, Some, None}
+use Rattle.std.specs.Prelude.{◌≡◌, refl, Bool, true, false, not, ℕ, zero, suc, ◌+◌, ◌-◌, ◌/◌, ◌%◌, ◌^◌, ◌≤◌, ◌<◌, length, get_or, set, replicate, eqb, ltb, leb, Option, Some, None}
 use Rattle.std.proofs.Common.{sym, ◌∙◌, pow-suc, arith, length-set, get_or-set_same, get_or-set_other, pow_pos, pow_mono, eq-eqb, ne_eqb, eqb-true}
 use Rattle.std.proofs.Math.Path.{ap}
 use Rattle.std.proofs.lemmas.Bool.{false≢true, eqb-false, not-true}
@@ -16,9 +16,11 @@ use Rattle.laws.specs.Rows.{span, span_more, span_none}
 use Rattle.laws.specs.In.{In, head, tail, in_span}
 use Rattle.workflow.specs.Code.{complete}
 use Rattle.workflow.specs.View.{Workflow, workflow, route_at, route_rows}
-use Rattle.workflow.specs.Lookup.{node_of}
+use Rattle.workflow.specs.Lookup.{is_0_2, node_of}
 use Rattle.workflow.specs.declared.Node.{Node}
 use Rattle.workflow.specs.declared.Route.{Route}
+use borrow.Author.Tests.{ltb-true, ltb-false}
+use Rattle.std.specs.Bool.{then_some}
 use Rattle.graph.specs.Sets.{has, mark, turned, closed, with_ends}
 use Rattle.graph.specs.Bits.{has_suc, has_zero, has_none, has_or, has_and, has_mark, or_cases, or_left, or_right, lt_or_ge, same_set, Under, lacking, lacking_same}
 use Rattle.graph.specs.Lowest.{lowest, Least, is_least, is_none, least}
@@ -28,6 +30,10 @@ use Rattle.graph.specs.Reach.{Trail, first, next, repeated_trails, closed_whole}
 -- The lowest number below the count that a set lacks.
 abbrev pub missing : (count set : ℕ) → Option ℕ
 missing k s = lowest k (λ n. not (has s n))
+
+-- In format 2: a node that is not reached from a set.
+abbrev pub unreached : Workflow → (back : Bool) → (start node : ℕ) → Bool
+unreached f b s n = is_0_2 f and not (has (closed f b s) n)
 
 -- The complete and fail nodes.
 abbrev pub add_end : (set node kind : ℕ) → ℕ
@@ -129,13 +135,16 @@ module _ (k s : ℕ) (low : s < 2 ^ 64) (few : k ≤ 64) where
   before_zero : (n : ℕ) → n < zero_of → n < 64 → not (has s n) ≡ false
   before_zero n h b = sym (has_not 64 s n low b) ∙ zeros_below 64 (2 ^ 64 - 1 - s) n h
 
-  pub missing_at : zero_of < k → Some zero_of ≡ missing k s
+  missing_at : zero_of < k → Some zero_of ≡ missing k s
   missing_at h =
       the_lowest k (λ n. not (has s n)) zero_of h (sym (has_not 64 s zero_of low (omega arith)) ∙ zeros_at 64 (2 ^ 64 - 1 - s) (omega arith))
       (λ n b. before_zero n b (omega arith)) (least k (λ n. not (has s n)))
 
-  pub missing_none : k ≤ zero_of → None ≡ missing k s
+  missing_none : k ≤ zero_of → None ≡ missing k s
   missing_none h = no_lowest k (λ n. not (has s n)) (λ n b. before_zero n (omega arith) (omega arith)) (least k (λ n. not (has s n)))
+
+  pub missing_is : then_some (ltb zero_of k) zero_of ≡ missing k s
+  missing_is = split (ltb zero_of k) (λ h. rw h (missing_at (ltb-true zero_of k h))) (λ h. rw h (missing_none (ltb-false zero_of k h)))
 
 -- ENDS, node by node.
 pub ends_more : (f : Workflow) (k i s : ℕ) → i < k → {x : Node} {t : ℕ} → x ≡ node_of f i → t ≡ add_end s i x.kind

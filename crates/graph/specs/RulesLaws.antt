@@ -1,7 +1,8 @@
 -- What the code of the rules looks at: the rows of one node or action, and outcomes as marks.
-use Rattle.std.specs.Prelude.{◌≡◌, Bool, not, List, [], ◌∷◌, get_or, length, set, replicate, ltb, leb, Some, None}
+use Rattle.std.specs.Prelude.{◌≡◌, Bool, not, List, [], ◌∷◌, get_or, length, set, replicate, drop, ltb, leb, Some, None}
+use Rattle.std.specs.List.{All, zip}
 use Rattle.std.proofs.Math.Path.{refl, sym, ap}
-use Rattle.std.proofs.Common.{◌∙◌, get_or-set_same, get_or-set_other}
+use Rattle.std.proofs.Common.{◌∙◌, add-one, drop-cons, drop_of_length-le, get_or-set_same, get_or-set_other}
 use Rattle.std.proofs.Math.Bool.{true, false}
 use Prim.Native.Nat.{ℕ, zero, suc, ◌+◌, ◌-◌, ◌≤◌, ◌<◌}
 use native.Mathlib.Omega.{arith}
@@ -10,27 +11,29 @@ use Rattle.std.proofs.lemmas.List.{get_or-replicate}
 use Rattle.std.proofs.Math.Dec.{eqb}
 use borrow.Author.Tests.{eq-eqb, eqb-true, eqb-false, ltb-true, ltb-false, lt-ltb, le-ltb, ne_eqb}
 use Rattle.laws.specs.Bool.{when◌then◌else◌, ◌and◌, ◌or◌, split, both, and_true, or_false, if_true}
-use Rattle.laws.specs.Rows.{span, span_more, span_none, at_span}
+use Rattle.laws.specs.Rows.{rows, span, span_more, span_none, at_span, length_rows, get_d_rows}
 use Rattle.laws.specs.First.{first, some, Seek, seek_start}
 use Rattle.laws.specs.Every.{every}
 use Rattle.laws.specs.In.{every_in, in_span}
 use Rattle.workflow.specs.Code.{none, failed, exhausted, await_signal}
-use Rattle.workflow.specs.Layout.{node_room, route_room, limit_room}
+use Rattle.workflow.specs.Layout.{node_room, route_room, limit_room, declared_room}
 use Rattle.workflow.specs.Layout as layout
 use Rattle.workflow.specs.View.{Workflow, workflow, at, cell, no_node, node_at, route_at, limit_at, declared_at, node_rows, route_rows, limit_rows, declared_rows}
 use Rattle.workflow.specs.RowLaws.{route_row, limit_row, declared_row, found_first}
 use Rattle.workflow.specs.Lookup.{is_0_2, node_of, policy_of, are, is_route, route_of, routed, is_declared, declares}
+use Rattle.graph.specs.declared.search.Rows.{Rows}
+use Rattle.graph.specs.RowsOf.{rows_of, Within}
 use Rattle.graph.specs.Lowest.{lowest}
 use Rattle.graph.specs.Form.{formed_route, formed_limit, formed_declared, form}
-use Rattle.graph.specs.Rules.{within, breaks_1, of_action, reserved, declared_twice, breaks_7, of_node, unrouted, may_route_exhausted, extra, leads_nowhere, breaks_8, breaks_9, limit_of_node, one_above, bad_limit, breaks_12}
+use Rattle.graph.specs.Rules.{within, breaks_1, of_action, reserved, declared_twice, breaks_7, of_node, unrouted, may_route_exhausted, extra, leads_nowhere, breaks_9, limit_of_node, one_above, bad_limit}
 use Rattle.graph.specs.SearchLaws.{Cut, cuts, the_cut, rows_below, Rising, ascending_rising, first_skip, first_none, form_sorted, parts_of, routes_ascend, limits_ascend, declared_rise}
 
 -- WHAT THE CONTRACTS CITE.
--- Some number from a to b passes.
-abbrev pub some_in : (a b : ℕ) → (ℕ → Bool) → Bool
-some_in a b p = some p (span (λ j. j) a b)
+-- Numbers that have a mark.
+abbrev pub AreOutcomes : List ℕ → Type 0
+AreOutcomes outcomes = All (λ outcome. outcome < 256) outcomes
 
--- Marks for outcomes: none; those in a part of a column; failed, and exhausted where two holds.
+-- Marks for outcomes: none; those of a list; failed, and exhausted where two holds; and with those an activity may route besides.
 abbrev pub no_marks : List Bool
 no_marks = replicate 256 false
 
@@ -38,32 +41,32 @@ unfoldable pub mark_all : List Bool → List ℕ → List Bool
 mark_all m [] = m
 mark_all m (x ∷ xs) = mark_all (set m x true) xs
 
-unfoldable pub marked : List ℕ → (start from to : ℕ) → List Bool
-marked w c a b = mark_all no_marks (span (cell w c) a b)
+unfoldable pub marked : List ℕ → List Bool
+marked outcomes = mark_all no_marks outcomes
 
 abbrev pub reserved_marks : (two : Bool) → List Bool
 reserved_marks t = set (set no_marks failed true) exhausted t
 
+abbrev pub known : List Bool → (exhausted : Bool) → List Bool
+known m e = set (set m failed true) exhausted (get_or (set m failed true) exhausted false or e)
+
 -- The number is not marked; some number is marked, or stands in the list before.
-abbrev pub unmarked : List ℕ → (start : ℕ) → List Bool → (row : ℕ) → Bool
-unmarked w c m j = not (get_or m (cell w c j) false)
+abbrev pub unmarked : List Bool → (outcome : ℕ) → Bool
+unmarked m outcome = not (get_or m outcome false)
 
 unfoldable pub again : List Bool → List ℕ → Bool
 again m [] = false
 again m (x ∷ xs) = get_or m x false or again (set m x true) xs
 
--- The target is no node.
-abbrev pub nowhere_at : List ℕ → (nodes row : ℕ) → Bool
-nowhere_at w k j = leb k (cell w layout.route_target j)
-
--- A limit that is 0 or not below the most visits, or whose outcome is not marked.
+-- A limit that is 0 or not below the most visits.
 unfoldable pub out_of_range : (most limit : ℕ) → Bool
 out_of_range k x = eqb x 0 or ltb k (one_above x)
 
-abbrev pub bad_row : List ℕ → List Bool → (most row : ℕ) → Bool
-bad_row w m k j = unmarked w layout.limit_outcome m j or out_of_range k (cell w layout.limit_limit j)
+-- A limit that is out of range, or whose outcome is not marked.
+abbrev pub bad_row : List Bool → (most : ℕ) → ℕ × ℕ → Bool
+bad_row m most row = unmarked m row.0 or out_of_range most row.1
 
--- Parts of rules 8, 9 and 12, and the three by their number.
+-- Parts of rules 8, 9 and 12.
 unfoldable pub misroutes : Workflow → (node action : ℕ) → Bool
 misroutes f n a = some (unrouted f n a) f.declared or some (extra f n a) f.routes or some (leads_nowhere f n) f.routes
 
@@ -73,32 +76,37 @@ routes_exhausted f n = is_0_2 f and routed f n exhausted and not (may_route_exha
 unfoldable pub misses : Workflow → (node : ℕ) → Bool
 misses f n = some (bad_limit f n) f.limits or not (routed f n exhausted)
 
-unfoldable pub breaks : Workflow → (rule node : ℕ) → Bool
-breaks f r n = when eqb r 8 then breaks_8 f n else when eqb r 9 then breaks_9 f n else breaks_12 f n
-
--- Numbers that have a mark.
-pub record Outcomes (w : List ℕ) (c a b : ℕ) : Type 0 where
-  pub fits : c + b ≤ layout.numbers
-  pub small : (j : ℕ) → a ≤ j → j < b → cell w c j < 256
-
 -- The rows of the key n stand from a to b.
 pub record Group (w : List ℕ) (c k n a b : ℕ) : Type 0 where
   pub formed : form (workflow w) ≡ true
   pub from : a ≡ rows_below w c k n
   pub to : b ≡ rows_below w c k (n + 1)
 
-abbrev pub RoutesOf : List ℕ → (node from to : ℕ) → Type 0
-RoutesOf w n a b = Group w layout.route_node (route_rows w) n a b
+abbrev pub RoutesOf : List ℕ → (node : ℕ) → Rows → Type 0
+RoutesOf w n rows = Group w layout.route_node (route_rows w) n rows.from rows.to
 
-abbrev pub LimitsOf : List ℕ → (node from to : ℕ) → Type 0
-LimitsOf w n a b = Group w layout.limit_node (limit_rows w) n a b
+abbrev pub LimitsOf : List ℕ → (node : ℕ) → Rows → Type 0
+LimitsOf w n rows = Group w layout.limit_node (limit_rows w) n rows.from rows.to
 
-abbrev pub DeclaredOf : List ℕ → (action from to : ℕ) → Type 0
-DeclaredOf w n a b = Group w layout.declared_action (declared_rows w) n a b
+abbrev pub DeclaredOf : List ℕ → (action : ℕ) → Rows → Type 0
+DeclaredOf w n rows = Group w layout.declared_action (declared_rows w) n rows.from rows.to
 
 -- A group by the count that the code has.
-pub the_group : {w : List ℕ} {c k k' n a b : ℕ} → form (workflow w) ≡ true → k ≡ k' → a ≡ rows_below w c k n → b ≡ rows_below w c k (n + 1) → Group w c k' n a b
-the_group f e g h = record { formed = f; from = rw e at g; to = rw e at h }
+pub the_group : {w : List ℕ} {c k k' n : ℕ} {rows : Rows} → form (workflow w) ≡ true → k ≡ k' → rows ≡ rows_of w c k n → Group w c k' n rows.from rows.to
+the_group {w} {c} {k} {k'} {n} {rows} f e h = record { formed = f; from = rw e at (ap (λ (r : Rows). r.from) h); to = rw e at (ap (λ (r : Rows). r.to) h) }
+
+-- Some number from a to b passes, and numbers of a column that have a mark.
+abbrev some_in : (a b : ℕ) → (ℕ → Bool) → Bool
+some_in a b p = some p (span (λ j. j) a b)
+
+abbrev Outcomes : List ℕ → (column from to : ℕ) → Type 0
+Outcomes w c a b = (j : ℕ) → a ≤ j → j < b → cell w c j < 256
+
+are_outcomes : (f : ℕ → ℕ) (b a : ℕ) → ((j : ℕ) → a ≤ j → j < b → f j < 256) → AreOutcomes (span f a b)
+unfolding span
+are_outcomes f b a h k d l =
+    let n = length_rows f a (b - a) in
+    rw (get_d_rows f a (b - a) k d (omega arith)) (h (a + k) (omega arith) (omega arith))
 
 -- TESTS.
 not_not : (x : Bool) → not (not x) ≡ x
@@ -141,9 +149,6 @@ some_cons : {A : Type 0} (p : A → Bool) (x : A) (xs : List A) → some p (x �
 unfolding first when◌then◌else◌ ◌or◌
 some_cons p x xs = split (p x) (λ h. rw h) (λ h. rw h (some_at p (0 + 1) 0 xs))
 
-pub seek_from : {A : Type 0} {p : A → Bool} {f : ℕ → A} {k : ℕ} (a : ℕ) → Seek p (λ _ _. true) false f k a (some p (span f a k))
-seek_from {p = p} {f = f} {k = k} a = record { left = some_at p a 0 (span f a k) }
-
 none_in : (s : ℕ → Bool) (i : ℕ) → some_in i i s ≡ false
 unfolding first
 none_in s i = rw (span_none (λ j. j) i i (omega arith))
@@ -181,8 +186,18 @@ module _ {A : Type 0} (q : A → Bool) (f : ℕ → A) (k : ℕ) where
         (ap (λ r. s i or r) (some_trim m (i + 1) (omega arith) (λ j l h. t j (omega arith) h)))
 
 -- A test of numbers as one of places.
-some_of : (g : ℕ → ℕ) (b : ℕ) (p : ℕ → Bool) (d i : ℕ) → b ≡ i + d → some p (span g i b) ≡ some_in i b (λ j. p (g j))
+some_of : {A : Type 0} (g : ℕ → A) (b : ℕ) (p : A → Bool) (d i : ℕ) → b ≡ i + d → some p (span g i b) ≡ some_in i b (λ j. p (g j))
 some_of g b p d i e = some_trim p g b (λ j. p (g j)) b (omega arith) (λ j l h. absurd (omega arith)) d i e (λ j l h. refl)
+
+-- Two columns side by side.
+zip_rows : (f g : ℕ → ℕ) (k i : ℕ) → zip (rows f i k) (rows g i k) ≡ rows (λ j. (f j, g j)) i k
+unfolding rows
+zip_rows f g zero i = refl
+zip_rows f g (suc k) i = ap (λ r. (f i, g i) ∷ r) (zip_rows f g k (i + 1))
+
+zip_span : (f g : ℕ → ℕ) (i k : ℕ) → zip (span f i k) (span g i k) ≡ span (λ j. (f j, g j)) i k
+unfolding span
+zip_span f g i k = zip_rows f g (k - i) i
 
 -- MARKS. What is marked after one more.
 module _ (m : List Bool) (x : ℕ) (v : Bool) (long : length m ≡ 256) (small : x < 256) (o : ℕ) where
@@ -209,10 +224,10 @@ module _ (g : ℕ → ℕ) (b o : ℕ) where
       ∙ ap (λ r. r or some_in (i + 1) b (λ j. eqb (g j) o)) (mark_one m (g i) long (small i (omega arith) (omega arith)) o)
       ∙ or_swap (eqb (g i) o) (get_or m o false) (some_in (i + 1) b (λ j. eqb (g j) o)))
 
-marked_has : (w : List ℕ) (c a b o : ℕ) → a ≤ b → Outcomes w c a b → o < 256 → get_or (marked w c a b) o false ≡ some_in a b (λ j. eqb (cell w c j) o)
+marked_has : (w : List ℕ) (c a b o : ℕ) → a ≤ b → Outcomes w c a b → o < 256 → get_or (marked (span (cell w c) a b)) o false ≡ some_in a b (λ j. eqb (cell w c j) o)
 unfolding marked ◌or◌
 marked_has w c a b o l s h =
-    mark_has (cell w c) b o (b - a) a no_marks (length-replicate 256 false) (omega arith) s.small
+    mark_has (cell w c) b o (b - a) a no_marks (length-replicate 256 false) (omega arith) s
     ∙ rw (get_or-replicate 256 o false false h)
 
 mark_all_long : (m : List Bool) (xs : List ℕ) → length (mark_all m xs) ≡ length m
@@ -220,66 +235,56 @@ unfolding mark_all
 mark_all_long m [] = refl
 mark_all_long m (x ∷ xs) = mark_all_long (set m x true) xs ∙ length-set m x true
 
-marked_long : (w : List ℕ) (c a b : ℕ) → length (marked w c a b) ≡ 256
+marked_long : (xs : List ℕ) → length (marked xs) ≡ 256
 unfolding marked
-marked_long w c a b = mark_all_long no_marks (span (cell w c) a b) ∙ length-replicate 256 false
+marked_long xs = mark_all_long no_marks xs ∙ length-replicate 256 false
 
 reserved_long : (t : Bool) → length (reserved_marks t) ≡ 256
 reserved_long t = length-set (set no_marks failed true) exhausted t ∙ length-set no_marks failed true ∙ length-replicate 256 false
 
--- A loop that marks the numbers from a to b.
-pub record Marking (w : List ℕ) (c a b : ℕ) (m : List Bool) (i : ℕ) : Type 0 where
-  pub start : a ≤ i
+-- What is left of a list from place i on.
+left_at : (xs : List ℕ) (i : ℕ) → i < length xs → drop i xs ≡ get_or xs i 0 ∷ drop (i + 1) xs
+left_at xs i h = rw add-one (drop-cons xs i 0 h)
+
+-- A loop that marks the numbers of a list: m has the marks of those before place i.
+pub record Marking (xs : List ℕ) (m : List Bool) (i : ℕ) : Type 0 where
   pub long : length m ≡ 256
-  pub left : mark_all m (span (cell w c) i b) ≡ marked w c a b
+  pub left : mark_all m (drop i xs) ≡ marked xs
 
-module _ {w : List ℕ} {c a b : ℕ} where
-  pub marking_start : Marking w c a b no_marks a
+module _ {xs : List ℕ} where
+  pub marking_start : Marking xs no_marks 0
   unfolding marked
-  marking_start = record { start = omega arith; long = length-replicate 256 false; left = refl }
+  marking_start = record { long = length-replicate 256 false; left = refl }
 
-  module _ {m : List Bool} {i : ℕ} (inv : Marking w c a b m i) where
-    pub marking_next : i < b → Marking w c a b (set m (cell w c i) true) (i + 1)
+  module _ {m : List Bool} {i : ℕ} (inv : Marking xs m i) where
+    pub marking_next : i < length xs → Marking xs (set m (get_or xs i 0) true) (i + 1)
     unfolding mark_all
-    marking_next h =
-        let s = inv.start in
-        record {
-          start = omega arith;
-          long = length-set m (cell w c i) true ∙ inv.long;
-          left = rw (span_more (cell w c) i b h) at inv.left;
-        }
+    marking_next h = record { long = length-set m (get_or xs i 0) true ∙ inv.long; left = rw (left_at xs i h) at inv.left }
 
-    pub marking_end : b ≤ i → m ≡ marked w c a b
+    pub marking_end : length xs ≤ i → m ≡ marked xs
     unfolding mark_all
-    marking_end h = rw (span_none (cell w c) i b h) at inv.left
+    marking_end h = rw (drop_of_length-le xs h) at inv.left
 
 -- A loop that looks for a number that is marked already.
-pub record Again (w : List ℕ) (c a b : ℕ) (whole : Bool) (m : List Bool) (i : ℕ) : Type 0 where
-  pub start : a ≤ i
+pub record Again (xs : List ℕ) (whole : Bool) (m : List Bool) (i : ℕ) : Type 0 where
   pub long : length m ≡ 256
-  pub left : again m (span (cell w c) i b) ≡ whole
+  pub left : again m (drop i xs) ≡ whole
 
-pub again_start : {w : List ℕ} {c a b : ℕ} (t : Bool) → Again w c a b (again (reserved_marks t) (span (cell w c) a b)) (reserved_marks t) a
-again_start t = record { start = omega arith; long = reserved_long t; left = refl }
+pub again_start : {xs : List ℕ} (t : Bool) → Again xs (again (reserved_marks t) xs) (reserved_marks t) 0
+again_start t = record { long = reserved_long t; left = refl }
 
-module _ {w : List ℕ} {c a b : ℕ} {whole : Bool} {m : List Bool} {i : ℕ} (inv : Again w c a b whole m i) where
-  pub again_hit : i < b → get_or m (cell w c i) false ≡ true → true ≡ whole
+module _ {xs : List ℕ} {whole : Bool} {m : List Bool} {i : ℕ} (inv : Again xs whole m i) where
+  pub again_hit : i < length xs → get_or m (get_or xs i 0) false ≡ true → true ≡ whole
   unfolding again ◌or◌
-  again_hit h t = rw (span_more (cell w c) i b h, t) at inv.left
+  again_hit h t = rw (left_at xs i h, t) at inv.left
 
-  pub again_miss : i < b → get_or m (cell w c i) false ≡ false → Again w c a b whole (set m (cell w c i) true) (i + 1)
+  pub again_miss : i < length xs → get_or m (get_or xs i 0) false ≡ false → Again xs whole (set m (get_or xs i 0) true) (i + 1)
   unfolding again ◌or◌
-  again_miss h t =
-      let s = inv.start in
-      record {
-        start = omega arith;
-        long = length-set m (cell w c i) true ∙ inv.long;
-        left = rw (span_more (cell w c) i b h, t) at inv.left;
-      }
+  again_miss h t = record { long = length-set m (get_or xs i 0) true ∙ inv.long; left = rw (left_at xs i h, t) at inv.left }
 
-  pub again_end : b ≤ i → false ≡ whole
+  pub again_end : length xs ≤ i → false ≡ whole
   unfolding again
-  again_end h = rw (span_none (cell w c) i b h) at inv.left
+  again_end h = rw (drop_of_length-le xs h) at inv.left
 
 -- OUTCOMES of rows that fit are small.
 small_at : {A : Type 0} (p : A → Bool) (o : A → ℕ) (f : ℕ → A) (k : ℕ) → ((x : A) → p x ≡ true → ltb (o x) none ≡ true) → every p (span f 0 k) ≡ true → (j : ℕ) → j < k → o (f j) < 256
@@ -367,76 +372,95 @@ module _ {w : List ℕ} {c k n a b : ℕ} (rising : Rising w c k) (g : Group w c
       (λ e. let z : a ≡ b = eqb-true a b e in rw (e, z) (none_in (λ _. true) b))
       (λ e. let d = eqb-false a b e in rw (e, more_in (λ _. true) a b (omega arith)))
 
-  part_small : (d : ℕ) → d + k ≤ layout.numbers → ((j : ℕ) → j < k → cell w d j < 256) → Outcomes w d a b
-  part_small d l s = let v = high.within in record { fits = omega arith; small = λ j _ h. s j (omega arith) }
+  -- as a test of the numbers in a column
+  among : {A : Type 0} (q : A → Bool) (f : ℕ → A) (d : ℕ) (p : ℕ → Bool) → ((j : ℕ) → j < k → q (f j) ≡ eqb (cell w c j) n and p (cell w d j)) → some q (span f 0 k) ≡ some p (span (cell w d) a b)
+  among q f d p t = let u = ordered in narrow q f (λ j. p (cell w d j)) t ∙ sym (some_of (cell w d) b p (b - a) a (omega arith))
+
+  -- a part of a column
+  part_within : (d : ℕ) → d + k ≤ layout.numbers → (rows : Rows) → rows.from ≡ a → rows.to ≡ b → Within d rows
+  part_within d l rows e f = let v = high.within in let u = ordered in record { ordered = omega arith; fits = omega arith }
+
+  part_small : (d : ℕ) → ((j : ℕ) → j < k → cell w d j < 256) → Outcomes w d a b
+  part_small d s j _ h = let v = high.within in s j (omega arith)
+
+  part_outcomes : (d : ℕ) → ((j : ℕ) → j < k → cell w d j < 256) → AreOutcomes (span (cell w d) a b)
+  part_outcomes d s = are_outcomes (cell w d) b a (part_small d s)
 
 -- The routes of a node.
-module _ {w : List ℕ} {n a b : ℕ} (g : RoutesOf w n a b) where
+module _ {w : List ℕ} {n a b : ℕ} (g : Group w layout.route_node (route_rows w) n a b) where
   routes_up : Rising w layout.route_node (route_rows w)
   routes_up = routes_rise w g.formed
 
-  pub routes_end : b ≤ route_room
-  routes_end = let v = (high routes_up g).within in omega arith
+  pub routes_outcomes : AreOutcomes (span (cell w layout.route_outcome) a b)
+  routes_outcomes = part_outcomes routes_up g layout.route_outcome (route_outcome_small w g.formed)
 
-  pub routes_outcomes : Outcomes w layout.route_outcome a b
-  routes_outcomes = part_small routes_up g layout.route_outcome (omega arith) (route_outcome_small w g.formed)
-
-  pub routed_marked : (o : ℕ) → o < 256 → get_or (marked w layout.route_outcome a b) o false ≡ routed (workflow w) n o
+  pub routed_among : (o : ℕ) → routed (workflow w) n o ≡ some (λ x. eqb x o) (span (cell w layout.route_outcome) a b)
   unfolding route_of are
-  routed_marked o h =
-      marked_has w layout.route_outcome a b o (ordered routes_up g) routes_outcomes h
-      ∙ sym (found_first (is_route n o) (λ x. x.target) 0 (workflow w).routes ∙ narrow routes_up g (is_route n o) (route_at w) (λ j. eqb (cell w layout.route_outcome j) o) (λ j l. rw (route_row w j l)))
+  routed_among o =
+      found_first (is_route n o) (λ x. x.target) 0 (workflow w).routes
+      ∙ among routes_up g (is_route n o) (route_at w) layout.route_outcome (λ x. eqb x o) (λ j l. rw (route_row w j l))
 
-  routes_any : some (of_node n) (workflow w).routes ≡ not (eqb a b)
+  routed_marked : (o : ℕ) → o < 256 → get_or (marked (span (cell w layout.route_outcome) a b)) o false ≡ routed (workflow w) n o
+  routed_marked o h =
+      let u = ordered routes_up g in
+      marked_has w layout.route_outcome a b o u (part_small routes_up g layout.route_outcome (route_outcome_small w g.formed)) h
+      ∙ sym (routed_among o ∙ some_of (cell w layout.route_outcome) b (λ x. eqb x o) (b - a) a (omega arith))
+
+  pub routes_any : some (of_node n) (workflow w).routes ≡ not (eqb a b)
   routes_any = any_in routes_up g (of_node n) (route_at w) (λ j l. rw (route_row w j l))
 
-  pub nowhere_in : some (leads_nowhere (workflow w) n) (workflow w).routes ≡ some_in a b (nowhere_at w (at w layout.node_count))
+  pub nowhere_among : some (leads_nowhere (workflow w) n) (workflow w).routes ≡ some (leb (at w layout.node_count)) (span (cell w layout.route_target) a b)
   unfolding leads_nowhere
-  nowhere_in = narrow routes_up g (leads_nowhere (workflow w) n) (route_at w) (nowhere_at w (at w layout.node_count)) (λ j l. rw (route_row w j l))
+  nowhere_among = among routes_up g (leads_nowhere (workflow w) n) (route_at w) layout.route_target (leb (at w layout.node_count)) (λ j l. rw (route_row w j l))
+
+pub routes_within : {w : List ℕ} {n : ℕ} {rows : Rows} → RoutesOf w n rows → (column : ℕ) → column + route_room ≤ layout.numbers → Within column rows
+routes_within g c l = part_within (routes_up g) g c (omega arith) _ refl refl
 
 -- The loop limits of a node.
-module _ {w : List ℕ} {n a b : ℕ} (g : LimitsOf w n a b) where
+module _ {w : List ℕ} {n a b : ℕ} (g : Group w layout.limit_node (limit_rows w) n a b) where
   limits_up : Rising w layout.limit_node (limit_rows w)
   limits_up = limits_rise w g.formed
 
-  pub limits_end : b ≤ limit_room
-  limits_end = let v = (high limits_up g).within in omega arith
-
-  pub limits_outcomes : Outcomes w layout.limit_outcome a b
-  limits_outcomes = part_small limits_up g layout.limit_outcome (omega arith) (limit_outcome_small w g.formed)
+  pub limits_outcomes : AreOutcomes (span (cell w layout.limit_outcome) a b)
+  limits_outcomes = part_outcomes limits_up g layout.limit_outcome (limit_outcome_small w g.formed)
 
   pub limits_any : some (limit_of_node n) (workflow w).limits ≡ not (eqb a b)
   limits_any = any_in limits_up g (limit_of_node n) (limit_at w) (λ j l. rw (limit_row w j l))
 
+pub limits_within : {w : List ℕ} {n : ℕ} {rows : Rows} → LimitsOf w n rows → (column : ℕ) → column + limit_room ≤ layout.numbers → Within column rows
+limits_within g c l = part_within (limits_up g) g c (omega arith) _ refl refl
+
 -- The outcomes that an action declares.
-module _ {w : List ℕ} {n a b : ℕ} (g : DeclaredOf w n a b) where
+module _ {w : List ℕ} {n a b : ℕ} (g : Group w layout.declared_action (declared_rows w) n a b) where
   declared_up : Rising w layout.declared_action (declared_rows w)
   declared_up = actions_rise w g.formed
 
-  pub declared_outcomes : Outcomes w layout.declared_outcome a b
-  declared_outcomes = part_small declared_up g layout.declared_outcome (omega arith) (declared_outcome_small w g.formed)
+  pub declared_outcomes : AreOutcomes (span (cell w layout.declared_outcome) a b)
+  declared_outcomes = part_outcomes declared_up g layout.declared_outcome (declared_outcome_small w g.formed)
 
-  declares_marked : (o : ℕ) → o < 256 → get_or (marked w layout.declared_outcome a b) o false ≡ declares (workflow w) n o
+  declares_marked : (o : ℕ) → o < 256 → get_or (marked (span (cell w layout.declared_outcome) a b)) o false ≡ declares (workflow w) n o
   unfolding declares are
   declares_marked o h =
-      marked_has w layout.declared_outcome a b o (ordered declared_up g) declared_outcomes h
+      marked_has w layout.declared_outcome a b o (ordered declared_up g) (part_small declared_up g layout.declared_outcome (declared_outcome_small w g.formed)) h
       ∙ sym (narrow declared_up g (is_declared n o) (declared_at w) (λ j. eqb (cell w layout.declared_outcome j) o) (λ j l. rw (declared_row w j l)))
 
   declared_any : some (of_action n) (workflow w).declared ≡ not (eqb a b)
   declared_any = any_in declared_up g (of_action n) (declared_at w) (λ j l. rw (declared_row w j l))
+
+pub declared_within : {w : List ℕ} {n : ℕ} {rows : Rows} → DeclaredOf w n rows → (column : ℕ) → column + declared_room ≤ layout.numbers → Within column rows
+declared_within g c l = part_within (declared_up g) g c (omega arith) _ refl refl
 
 -- A WALK over the nodes or actions up to `total`, with the rows of each.
 pub record Walking {B : Type 0} (p : ℕ → Bool) (v : ℕ → ℕ → B) (e : B) (w : List ℕ) (c k total from i : ℕ) (whole : B) : Type 0 where
   pub place : from ≡ rows_below w c k i
   pub seek : Seek p v e (λ j. j) total i whole
 
-pub walk_start : {B : Type 0} {p : ℕ → Bool} {v : ℕ → ℕ → B} {e : B} {w : List ℕ} {c k total : ℕ} → Walking p v e w c k total 0 0 (first p v e 0 (span (λ j. j) 0 total))
+pub first_place : (w : List ℕ) (c k : ℕ) → 0 ≡ rows_below w c k 0
 unfolding rows_below
-walk_start {w = w} {c = c} {k = k} =
-    record {
-      place = the_cut (record { within = omega arith; below = λ j h. absurd (omega arith); fails = λ h. le-ltb (cell w c 0) 0 (omega arith) });
-      seek = seek_start;
-    }
+first_place w c k = the_cut (record { within = omega arith; below = λ j h. absurd (omega arith); fails = λ h. le-ltb (cell w c 0) 0 (omega arith) })
+
+pub walk_start : {B : Type 0} {p : ℕ → Bool} {v : ℕ → ℕ → B} {e : B} {w : List ℕ} {c k total : ℕ} → Walking p v e w c k total 0 0 (first p v e 0 (span (λ j. j) 0 total))
+walk_start = record { place = first_place _ _ _; seek = seek_start }
 
 -- RULE 1.
 module _ (w : List ℕ) where
@@ -493,7 +517,7 @@ reserved_has t o h =
     (λ e. let z : o ≡ exhausted = eqb-true o exhausted e in rw z (split t (λ i. rw i) (λ i. rw i)))
     (λ e. rw e (split (eqb o failed) (λ i. rw i) (λ i. rw i (split t (λ u. rw u) (λ u. rw u))))))
 
-module _ {w : List ℕ} {n a b : ℕ} (g : DeclaredOf w n a b) where
+module _ {w : List ℕ} {n a b : ℕ} (g : Group w layout.declared_action (declared_rows w) n a b) where
   reserved_in : some (reserved (workflow w) n) (workflow w).declared ≡ some_in a b (λ j. get_or (reserved_marks (is_0_2 (workflow w))) (cell w layout.declared_outcome j) false)
   unfolding reserved
   reserved_in =
@@ -552,7 +576,7 @@ module _ {w : List ℕ} {n a b : ℕ} (g : DeclaredOf w n a b) where
   again_declared : again (reserved_marks (is_0_2 (workflow w))) (span (cell w layout.declared_outcome) a b) ≡ some (reserved (workflow w) n) (workflow w).declared or declared_twice n (workflow w).declared
   again_declared =
       let u = ordered (declared_up g) g in
-      again_is (cell w layout.declared_outcome) b (b - a) a (reserved_marks (is_0_2 (workflow w))) (reserved_long (is_0_2 (workflow w))) (omega arith) (declared_outcomes g).small
+      again_is (cell w layout.declared_outcome) b (b - a) a (reserved_marks (is_0_2 (workflow w))) (reserved_long (is_0_2 (workflow w))) (omega arith) (part_small (declared_up g) g layout.declared_outcome (declared_outcome_small w g.formed))
       ∙ rw (reserved_in, twice_in)
 
   pub breaks_7_at : (k : ℕ) → breaks_7 (workflow w) k n ≡ eqb a b or again (reserved_marks (is_0_2 (workflow w))) (span (cell w layout.declared_outcome) a b) or not (within k (policy_of (workflow w) n).max_attempts)
@@ -560,34 +584,41 @@ module _ {w : List ℕ} {n a b : ℕ} (g : DeclaredOf w n a b) where
   breaks_7_at k = rw (declared_any g, not_not (eqb a b), again_declared, or_assoc _ _ _)
 
 -- RULE 8. The declared outcomes with failed, and with exhausted where e holds.
-abbrev pub known : List Bool → (exhausted : Bool) → List Bool
-known m e = set (set m failed true) exhausted (e or get_or (set m failed true) exhausted false)
-
 known_has : (m : List Bool) (e : Bool) (o : ℕ) → length m ≡ 256 → get_or (known m e) o false ≡ eqb o failed or eqb o exhausted and e or get_or m o false
 unfolding when◌then◌else◌ ◌or◌ ◌and◌
 known_has m e o long =
     mark_at (set m failed true) exhausted _ (length-set m failed true ∙ long) (omega arith) o
     ∙ rw (mark_at m failed true long (omega arith) o, mark_at m failed true long (omega arith) exhausted)
-    (split (eqb o exhausted) (λ h. let z : o ≡ exhausted = eqb-true o exhausted h in rw z) (λ h. rw h (split (eqb o failed) (λ i. rw i) (λ i. rw i))))
+    (split (eqb o exhausted)
+    (λ h. let z : o ≡ exhausted = eqb-true o exhausted h in rw z (split e (λ u. rw u (sym (or_true _))) (λ u. rw u (sym (or_false _)))))
+    (λ h. rw h (split (eqb o failed) (λ i. rw i) (λ i. rw i))))
 
-module _ {w : List ℕ} {n a b : ℕ} (g : RoutesOf w n a b) {x p q : ℕ} (d : DeclaredOf w x p q) where
-  pub unrouted_in : some (unrouted (workflow w) n x) (workflow w).declared ≡ some_in p q (unmarked w layout.declared_outcome (marked w layout.route_outcome a b))
+module _ {w : List ℕ} {n a b : ℕ} (g : Group w layout.route_node (route_rows w) n a b) {x p q : ℕ} (d : Group w layout.declared_action (declared_rows w) x p q) where
+  unrouted_among : some (unrouted (workflow w) n x) (workflow w).declared ≡ some (unmarked (marked (span (cell w layout.route_outcome) a b))) (span (cell w layout.declared_outcome) p q)
   unfolding unrouted
-  unrouted_in =
-      narrow (declared_up d) d (unrouted (workflow w) n x) (declared_at w) _
+  unrouted_among =
+      among (declared_up d) d (unrouted (workflow w) n x) (declared_at w) layout.declared_outcome _
       (λ j l. rw (declared_row w j l, routed_marked g (cell w layout.declared_outcome j) (declared_outcome_small w d.formed j l)))
 
-  pub extra_in : some (extra (workflow w) n x) (workflow w).routes ≡ some_in a b (unmarked w layout.route_outcome (known (marked w layout.declared_outcome p q) (may_route_exhausted (workflow w) n)))
+  extra_among : some (extra (workflow w) n x) (workflow w).routes ≡ some (unmarked (known (marked (span (cell w layout.declared_outcome) p q)) (may_route_exhausted (workflow w) n))) (span (cell w layout.route_outcome) a b)
   unfolding extra
-  extra_in =
-      narrow (routes_up g) g (extra (workflow w) n x) (route_at w) _
-      (λ j l. rw (route_row w j l, known_has (marked w layout.declared_outcome p q) (may_route_exhausted (workflow w) n) (cell w layout.route_outcome j) (marked_long w layout.declared_outcome p q), declares_marked d (cell w layout.route_outcome j) (route_outcome_small w g.formed j l)))
+  extra_among =
+      among (routes_up g) g (extra (workflow w) n x) (route_at w) layout.route_outcome _
+      (λ j l. rw (route_row w j l, known_has (marked (span (cell w layout.declared_outcome) p q)) (may_route_exhausted (workflow w) n) (cell w layout.route_outcome j) (marked_long (span (cell w layout.declared_outcome) p q)), declares_marked d (cell w layout.route_outcome j) (route_outcome_small w g.formed j l)))
+
+  -- the outcomes of both, and the targets
+  pub misroutes_at : misroutes (workflow w) n x
+      ≡ (some (unmarked (marked (span (cell w layout.route_outcome) a b))) (span (cell w layout.declared_outcome) p q)
+      or some (unmarked (known (marked (span (cell w layout.declared_outcome) p q)) (may_route_exhausted (workflow w) n))) (span (cell w layout.route_outcome) a b)
+      or some (leb (at w layout.node_count)) (span (cell w layout.route_target) a b))
+  unfolding misroutes
+  misroutes_at = rw (unrouted_among, extra_among, nowhere_among g)
 
 -- RULE 9.
-pub breaks_9_at : {w : List ℕ} {n a b : ℕ} → RoutesOf w n a b
-    → breaks_9 (workflow w) n ≡ eqb (node_of (workflow w) n).kind await_signal and (eqb a b or routes_exhausted (workflow w) n or some_in a b (nowhere_at w (at w layout.node_count)))
+pub breaks_9_at : {w : List ℕ} {n a b : ℕ} → Group w layout.route_node (route_rows w) n a b
+    → breaks_9 (workflow w) n ≡ eqb (node_of (workflow w) n).kind await_signal and (eqb a b or routes_exhausted (workflow w) n or some (leb (at w layout.node_count)) (span (cell w layout.route_target) a b))
 unfolding breaks_9 routes_exhausted
-breaks_9_at {a = a} {b = b} g = rw (routes_any g, not_not (eqb a b), nowhere_in g)
+breaks_9_at {a = a} {b = b} g = rw (routes_any g, not_not (eqb a b), nowhere_among g)
 
 -- RULE 12. The marks but for exhausted.
 unlike : (m : List Bool) (o : ℕ) → length m ≡ 256 → not (get_or (set m exhausted false) o false) ≡ eqb o exhausted or not (get_or m o false)
@@ -595,7 +626,7 @@ unfolding when◌then◌else◌ ◌or◌
 unlike m o long = rw (mark_at m exhausted false long (omega arith) o) (split (eqb o exhausted) (λ h. rw h) (λ h. rw h))
 
 -- With the marks m that the code has, exhausted is routed, or not.
-module _ {w : List ℕ} {n a b : ℕ} (g : RoutesOf w n a b) {m : List Bool} (e : m ≡ marked w layout.route_outcome a b) where
+module _ {w : List ℕ} {n a b : ℕ} (g : Group w layout.route_node (route_rows w) n a b) {m : List Bool} (e : m ≡ marked (span (cell w layout.route_outcome) a b)) where
   by_mark : {t : Bool} → get_or m exhausted false ≡ t → routed (workflow w) n exhausted ≡ t
   by_mark h = sym (routed_marked g exhausted (omega arith)) ∙ (rw e at h)
 
@@ -603,13 +634,18 @@ module _ {w : List ℕ} {n a b : ℕ} (g : RoutesOf w n a b) {m : List Bool} (e 
   unfolding misses
   exhausted_unrouted h = rw (by_mark h) (or_true _)
 
-  module _ {p q : ℕ} (l : LimitsOf w n p q) where
-    bad_limit_in : some (bad_limit (workflow w) n) (workflow w).limits ≡ some_in p q (bad_row w (set (marked w layout.route_outcome a b) exhausted false) (at w layout.max_visits_per_node))
+  module _ {p q : ℕ} (l : Group w layout.limit_node (limit_rows w) n p q) where
+    bad_limit_among : some (bad_limit (workflow w) n) (workflow w).limits
+        ≡ some (bad_row (set (marked (span (cell w layout.route_outcome) a b)) exhausted false) (at w layout.max_visits_per_node)) (zip (span (cell w layout.limit_outcome) p q) (span (cell w layout.limit_limit) p q))
     unfolding bad_limit out_of_range
-    bad_limit_in =
-        narrow (limits_up l) l (bad_limit (workflow w) n) (limit_at w) _
-        (λ j h. rw (limit_row w j h, unlike (marked w layout.route_outcome a b) (cell w layout.limit_outcome j) (marked_long w layout.route_outcome a b), routed_marked g (cell w layout.limit_outcome j) (limit_outcome_small w l.formed j h), or_assoc (eqb (cell w layout.limit_outcome j) exhausted)))
+    bad_limit_among =
+        let u = ordered (limits_up l) l in
+        let bad = bad_row (set (marked (span (cell w layout.route_outcome) a b)) exhausted false) (at w layout.max_visits_per_node) in
+        narrow (limits_up l) l (bad_limit (workflow w) n) (limit_at w) (λ j. bad (cell w layout.limit_outcome j, cell w layout.limit_limit j))
+        (λ j i. rw (limit_row w j i, unlike (marked (span (cell w layout.route_outcome) a b)) (cell w layout.limit_outcome j) (marked_long (span (cell w layout.route_outcome) a b)), routed_marked g (cell w layout.limit_outcome j) (limit_outcome_small w l.formed j i), or_assoc (eqb (cell w layout.limit_outcome j) exhausted)))
+        ∙ rw zip_span (sym (some_of (λ j. (cell w layout.limit_outcome j, cell w layout.limit_limit j)) q bad (q - p) p (omega arith)))
 
-    pub exhausted_routed : {t : Bool} → get_or m exhausted false ≡ true → t ≡ some_in p q (bad_row w (set m exhausted false) (at w layout.max_visits_per_node)) → t ≡ misses (workflow w) n
+    pub misses_at : get_or m exhausted false ≡ true
+        → misses (workflow w) n ≡ some (bad_row (set m exhausted false) (at w layout.max_visits_per_node)) (zip (span (cell w layout.limit_outcome) p q) (span (cell w layout.limit_limit) p q))
     unfolding misses
-    exhausted_routed h t = rw e at t ∙ sym bad_limit_in ∙ rw (by_mark h) (or_false _)
+    misses_at h = rw (by_mark h, e) (sym (or_false _) ∙ bad_limit_among)

@@ -1,5 +1,7 @@
 -- Where sorted rows stand: what a binary search finds.
-use Rattle.std.specs.Prelude.{◌≡◌, Bool, true, false, not, List, ltb, leb, eqb}
+use Rattle.std.specs.Prelude.{◌≡◌, refl, Bool, true, false, not, List, length, get_or, ltb, leb, eqb}
+use Rattle.std.specs.List.{prefix_len}
+use Rattle.std.specs.List.Sorted.{IsNonDecreasing, IsPartitionPoint}
 use Rattle.std.proofs.Math.Path.{sym}
 use Rattle.std.proofs.Common.{◌∙◌, ap}
 use Rattle.std.proofs.lemmas.Bool.{false≢true}
@@ -7,7 +9,7 @@ use Prim.Native.Nat.{ℕ, zero, suc, ◌+◌, ◌-◌, ◌≤◌, ◌<◌}
 use native.Mathlib.Omega.{arith}
 use borrow.Author.Tests.{eq-eqb, eqb-true, eqb-false, not-true, ltb-true, ltb-false, leb-true, lt-ltb, le-ltb, le-leb}
 use Rattle.laws.specs.Bool.{when◌then◌else◌, ◌and◌, ◌or◌, split, both}
-use Rattle.laws.specs.Rows.{span, span_more, span_none}
+use Rattle.laws.specs.Rows.{rows, span, span_more, span_none, length_span, at_span}
 use Rattle.laws.specs.First.{first}
 use Rattle.laws.specs.Every.{every}
 use Rattle.workflow.specs.Layout as layout
@@ -55,45 +57,6 @@ the_cut {p} {k} x =
     let u = not_under x (cuts p k) in
     let v = not_under (cuts p k) x in
     omega arith
-
-same_cut : (p q : ℕ → Bool) (k : ℕ) → ((j : ℕ) → j < k → p j ≡ q j) → cut p k ≡ cut q k
-same_cut p q k s =
-    let x = cuts p k in
-    let u = x.within in
-    the_cut (record { within = x.within; below = λ j h. sym (s j (omega arith)) ∙ x.below j h; fails = λ h. sym (s _ h) ∙ x.fails h })
-
--- A loop that brings low and high together: all below low pass, and high fails or is the end.
-pub record Halving (p : ℕ → Bool) (k low high : ℕ) : Type 0 where
-  pub meet : low ≤ high
-  pub within : high ≤ k
-  pub below : (j : ℕ) → j < low → p j ≡ true
-  pub fails : high < k → p high ≡ false
-
--- What passes at a number passes below it.
-abbrev pub Falling : (ℕ → Bool) → ℕ → Type 0
-Falling p k = (i j : ℕ) → i ≤ j → j < k → p j ≡ true → p i ≡ true
-
-module _ {p : ℕ → Bool} {k : ℕ} where
-  pub halving_start : Halving p k 0 k
-  halving_start = record { meet = omega arith; within = omega arith; below = λ j h. absurd (omega arith); fails = λ h. absurd (omega arith) }
-
-  module _ {low high : ℕ} (inv : Halving p k low high) where
-    pub halving_up : (mid : ℕ) {b : Bool} → Falling p k → mid < high → b ≡ p mid → b ≡ true → Halving p k (mid + 1) high
-    halving_up mid falls h q t =
-        let w = inv.within in
-        record { meet = omega arith; within = w; below = λ j l. falls j mid (omega arith) (omega arith) (sym q ∙ t); fails = inv.fails }
-
-    pub halving_down : (mid : ℕ) {b : Bool} → low ≤ mid → mid < high → b ≡ p mid → b ≡ false → Halving p k low mid
-    halving_down mid l h q t =
-        let w = inv.within in
-        record { meet = l; within = omega arith; below = inv.below; fails = λ _. sym q ∙ t }
-
-    pub halving_end : high ≤ low → low ≡ cut p k
-    halving_end h =
-        let m = inv.meet in
-        let w = inv.within in
-        let e : low ≡ high = omega arith in
-        the_cut (record { within = omega arith; below = inv.below; fails = λ l. rw e (inv.fails (omega arith)) })
 
 -- THE ORDER OF PAIRS.
 data Ascends (n o n' o' : ℕ) : Type 0 where
@@ -156,18 +119,13 @@ module _ {A : Type 0} (r : A → A → Bool) (f : ℕ → A) (k : ℕ) where
         rw z (far (j - (i + 1)) i (omega arith))
 
 -- ROWS BY COLUMN.
--- The number of rows before a pair, and before a key.
-unfoldable pub rows_before : List ℕ → (major minor count x y : ℕ) → ℕ
-rows_before w a b k x y = cut (λ j. ascends (cell w a j) (cell w b j) x y) k
-
+-- The number of rows below a key.
 unfoldable pub rows_below : List ℕ → (start count key : ℕ) → ℕ
 rows_below w c k n = cut (λ j. ltb (cell w c j) n) k
 
--- What a search for a pair needs: the rows before it stand first.
-pub record Halved (w : List ℕ) (a b k x y : ℕ) : Type 0 where
-  pub major_fits : a + k ≤ layout.numbers
-  pub minor_fits : b + k ≤ layout.numbers
-  pub falls : Falling (λ j. ascends (cell w a j) (cell w b j) x y) k
+pub rows_below_within : (w : List ℕ) (c k n : ℕ) → rows_below w c k n ≤ k
+unfolding rows_below
+rows_below_within w c k n = (cuts (λ j. ltb (cell w c j) n) k).within
 
 -- Pairs that ascend strictly, and numbers that do not fall.
 pub record Ascending (w : List ℕ) (a b k : ℕ) : Type 0 where
@@ -183,14 +141,6 @@ pub record Rising (w : List ℕ) (c k : ℕ) : Type 0 where
 at_or_before : {A : Type 0} (i j : ℕ) → i ≤ j → (i ≡ j → A) → (i < j → A) → A
 at_or_before i j h f g = split (eqb i j) (λ e. f (eqb-true i j e)) (λ e. let d = eqb-false i j e in g (omega arith))
 
-pub ascending_halved : {w : List ℕ} {a b k : ℕ} (x y : ℕ) → Ascending w a b k → Halved w a b k x y
-ascending_halved {w} {a} {b} x y s =
-    record {
-      major_fits = s.major_fits;
-      minor_fits = s.minor_fits;
-      falls = λ i j l h e. at_or_before i j l (λ q. rw q e) (λ g. ascends_on _ _ _ _ x y (s.ascend i j g h) e);
-    }
-
 not_above : {n o n' o' : ℕ} → Ascends n o n' o' → n ≤ n'
 not_above (by_node h) = omega arith
 not_above (by_outcome e h) = omega arith
@@ -202,34 +152,11 @@ ascending_rising {w} {a} s =
       rise = λ i j l h. at_or_before i j l (λ q. rw q (omega arith)) (λ g. not_above (ascended _ _ _ _ (s.ascend i j g h)));
     }
 
--- Before (x, 0) stands what is below x.
-before_first : (n o x : ℕ) → ascends n o x 0 ≡ ltb n x
-unfolding ascends ◌or◌ ◌and◌
-before_first n o x =
-    split (ltb n x) (λ h. rw h)
-    (λ h. rw (h, le-ltb o 0 (omega arith)) (split (eqb n x) (λ e. rw e) (λ e. rw e)))
-
-pub below_before : (w : List ℕ) (a b k x : ℕ) → rows_before w a b k x 0 ≡ rows_below w a k x
-unfolding rows_before rows_below
-below_before w a b k x = same_cut _ _ k (λ j h. before_first (cell w a j) (cell w b j) x)
-
-pub rising_halved : {w : List ℕ} {c k : ℕ} (x : ℕ) → Rising w c k → Halved w c c k x 0
-rising_halved {w} {c} x s =
-    record {
-      major_fits = s.fits;
-      minor_fits = s.fits;
-      falls = λ i j l h e.
-          let t : ltb (cell w c j) x ≡ true = sym (before_first _ _ x) ∙ e in
-          let u = ltb-true (cell w c j) x t in
-          let v = s.rise i j l h in
-          before_first _ _ x ∙ lt-ltb (cell w c i) x (omega arith);
-    }
-
 -- A walk along the rows of one key, from the first to the end.
-pub record Passing (w : List ℕ) (c k from key i : ℕ) : Type 0 where
-  pub start : from ≤ i
-  pub within : i ≤ k
-  pub below : (j : ℕ) → j < i → ltb (cell w c j) (key + 1) ≡ true
+record Passing (w : List ℕ) (c k from key i : ℕ) : Type 0 where
+  start : from ≤ i
+  within : i ≤ k
+  below : (j : ℕ) → j < i → ltb (cell w c j) (key + 1) ≡ true
 
 below_more : (a b : ℕ) → ltb a b ≡ true → ltb a (b + 1) ≡ true
 below_more a b e = let h = ltb-true a b e in lt-ltb a (b + 1) (omega arith)
@@ -239,11 +166,11 @@ module _ {w : List ℕ} {c k from : ℕ} (key : ℕ) (rising : Rising w c k) (fi
   unfolding rows_below
   it_starts = rw first_row (cuts _ k)
 
-  pub passing_start : Passing w c k from key from
+  passing_start : Passing w c k from key from
   passing_start = record { start = omega arith; within = it_starts.within; below = λ j h. below_more _ key (it_starts.below j h) }
 
   module _ {i : ℕ} (inv : Passing w c k from key i) where
-    pub passing_next : i < k → cell w c i ≡ key → Passing w c k from key (i + 1)
+    passing_next : i < k → cell w c i ≡ key → Passing w c k from key (i + 1)
     passing_next h e =
         let s = inv.start in
         record {
@@ -252,7 +179,7 @@ module _ {w : List ℕ} {c k from : ℕ} (key : ℕ) (rising : Rising w c k) (fi
           below = λ j l. one_up (λ n. ltb (cell w c n) (key + 1)) i j inv.below (lt-ltb (cell w c i) (key + 1) (omega arith)) l;
         }
 
-    pub passing_stop : i < k → (cell w c i ≡ key → ⊥) → i ≡ rows_below w c k (key + 1)
+    passing_stop : i < k → (cell w c i ≡ key → ⊥) → i ≡ rows_below w c k (key + 1)
     unfolding rows_below
     passing_stop h d =
         let s = inv.start in
@@ -260,11 +187,53 @@ module _ {w : List ℕ} {c k from : ℕ} (key : ℕ) (rising : Rising w c k) (fi
         let r = rising.rise from i s h in
         the_cut (record { within = inv.within; below = inv.below; fails = λ _. le-ltb (cell w c i) (key + 1) (omega arith) })
 
-    pub passing_end : k ≤ i → k ≡ rows_below w c k (key + 1)
+    passing_end : k ≤ i → k ≡ rows_below w c k (key + 1)
     unfolding rows_below
     passing_end h =
         let l = inv.within in
         the_cut (record { within = omega arith; below = λ j g. inv.below j (omega arith); fails = λ g. absurd (omega arith) })
+
+  -- the first rows from `from` on that have the key
+  run_from : (m i : ℕ) → k ≡ i + m → Passing w c k from key i → i + prefix_len (λ x. eqb x key) (rows (cell w c) i m) ≡ rows_below w c k (key + 1)
+  unfolding rows
+  run_from zero i e inv =
+      let z : i + 0 ≡ k = omega arith in
+      rw z (passing_end inv (omega arith))
+  run_from (suc m) i e inv =
+      split (eqb (cell w c i) key)
+      (λ t.
+      let z : i + (1 + prefix_len (λ x. eqb x key) (rows (cell w c) (i + 1) m)) ≡ i + 1 + prefix_len (λ x. eqb x key) (rows (cell w c) (i + 1) m) = omega arith in
+      rw (t, z) (run_from m (i + 1) (omega arith) (passing_next inv (omega arith) (eqb-true (cell w c i) key t))))
+      (λ t.
+      let z : i + 0 ≡ i = omega arith in
+      rw (t, z) (passing_stop inv (omega arith) (eqb-false (cell w c i) key t)))
+
+  pub run_end : from + prefix_len (λ x. eqb x key) (span (cell w c) from k) ≡ rows_below w c k (key + 1)
+  unfolding span
+  run_end =
+      let l = it_starts.within in
+      run_from (k - from) from (omega arith) passing_start
+
+-- The column as a list, and where a search for a key parts it.
+module _ {w : List ℕ} {c k : ℕ} (rising : Rising w c k) where
+  column_at : (j d : ℕ) → j < k → get_or (span (cell w c) 0 k) j d ≡ cell w c j
+  column_at j d h = sym (at_span (cell w c) k j d h refl)
+
+  pub rising_list : IsNonDecreasing (span (cell w c) 0 k)
+  rising_list i j d l h =
+      let n = length_span (cell w c) k in
+      rw (column_at i d (omega arith), column_at j d (omega arith)) (rising.rise i j l (omega arith))
+
+  pub parted_below : (key i : ℕ) → i ≤ length (span (cell w c) 0 k) → IsPartitionPoint (λ y. ltb y key ≡ true) (λ y. ltb y key ≡ false) (span (cell w c) 0 k) i → i ≡ rows_below w c k key
+  unfolding rows_below
+  parted_below key i l h =
+      let n = length_span (cell w c) k in
+      the_cut
+      (record {
+        within = omega arith;
+        below = λ j g. rw (column_at j 0 (omega arith)) at (h.0 j 0 (omega arith) g);
+        fails = λ g. rw (column_at i 0 g) at (h.1 i 0 (omega arith) (omega arith));
+      })
 
 -- THE FIRST ROW THAT PASSES, over the rows from i on.
 module _ {A B : Type 0} (q : A → Bool) (v : ℕ → A → B) (e : B) (f : ℕ → A) (k : ℕ) where
@@ -346,7 +315,7 @@ table_rises w a k g e =
       fits = g;
       rise = λ i j l h.
           at_or_before i j l (λ q. rw q (omega arith))
-          (λ m. leb-true _ _ (pairwise (λ i j. leb (cell w a i) (cell w a j)) (λ j. j) k (λ x y z. leb_on (cell w a x) (cell w a y) (cell w a z)) e i j m h));
+          (λ m. leb-true _ _ (pairwise leb (cell w a) k leb_on e i j m h));
     }
 
 module _ (w : List ℕ) (s : Sorted (workflow w)) where

@@ -18,7 +18,7 @@ use workflow::layout::NUMBERS;
 use workflow::refusal::Refusal;
 
 // The largest numbers that a sheet may ask for.
-#[derive(Clone, Copy)]
+#[derive(Clone, Copy, Debug, PartialEq, Eq)]
 pub struct Ceilings {
     pub nodes: u32,
     pub visits: u32,

@@ -6,7 +6,7 @@ ghost use Rattle.graph.specs.Lowest.{lowest};
 ghost use Rattle.graph.specs.Verdict.{rule_at};
 ghost use Rattle.graph.specs.Accepted.{Rules};
 ghost use Rattle.graph.specs.Sets.{turned, closed, breaks_14, breaks_15};
-ghost use Rattle.graph.specs.ReachLaws.{missing, add_end, ends, masks};
+ghost use Rattle.graph.specs.ReachLaws.{missing, unreached, ends, masks};
 
 use crate::{Broken, rule_at};
 use workflow::layout::NUMBERS;
@@ -25,13 +25,14 @@ fn turned(back: bool, x: Route) -> Route
     ensures { result ≡ turned back x }
 {
     if back {
-        return Route {
+        Route {
             node: x.target,
-            outcome: x.outcome,
             target: x.node,
-        };
+            ..x
+        }
+    } else {
+        x
     }
-    x
 }
 
 // For each node, the nodes that a route leads to.
@@ -41,12 +42,9 @@ fn masks(w: &[u32; NUMBERS], back: bool) -> [u64; layout::NODES]
 {
     let k = capped(w[layout::ROUTE_COUNT], layout::ROUTES);
     let mut masks = [0u64; layout::NODES];
-    let mut i: usize = 0;
-    while i < k {
+    for i in 0..k {
         let x = turned(back, route_at(w, i));
-        let n = x.node as usize;
-        masks[n] = masks[n] | bit(x.target);
-        i += 1;
+        masks[x.node as usize] |= bit(x.target);
     }
     masks
 }
@@ -62,35 +60,23 @@ fn closed(w: &[u32; NUMBERS], back: bool, start: u64) -> u64
     let mut frontier = start;
     while frontier != 0 {
         let n = u64::trailing_zeros(frontier);
-        done = done | bit(n);
-        let m = n as usize;
-        set = set | masks[m];
+        done |= bit(n);
+        set |= masks[n as usize];
         frontier = set & !done;
     }
     set
 }
 
-fn add_end(set: u64, node: u32, kind: u32) -> u64
-    requires { node < 64 }
-    ensures { result ≡ add_end set node kind }
-{
-    if code::COMPLETE <= kind {
-        return set | bit(node);
-    }
-    set
-}
-
+// The nodes that end a run.
 fn ends(w: &[u32; NUMBERS]) -> u64
     requires { Rules (workflow w.now) }
     ensures { result ≡ ends (workflow w.now) }
 {
-    let count = w[layout::NODE_COUNT];
-    let mut set: u64 = 0;
-    let mut i: u32 = 0;
-    while i < count {
-        let x = node_of(w, i);
-        set = add_end(set, i, x.kind);
-        i += 1;
+    let mut set = 0;
+    for node in 0..w[layout::NODE_COUNT] {
+        if code::COMPLETE <= node_of(w, node).kind {
+            set |= bit(node);
+        }
     }
     set
 }
@@ -101,46 +87,34 @@ fn missing(set: u64, count: u32) -> Option<u32>
     ensures { result ≡ missing count set }
 {
     let n = u64::trailing_zeros(!set);
-    if n < count {
-        return Some(n);
-    }
-    None
+    (n < count).then_some(n)
 }
 
-// Rules 14 and 15, in format 2.
-
-fn lowest_14(w: &[u32; NUMBERS]) -> Option<u32>
-    requires { Rules (workflow w.now) }
-    ensures { result ≡ lowest (workflow w.now).node_count (breaks_14 (workflow w.now)) }
+// In format 2: the lowest node that is not reached from a set along the routes.
+fn lowest_unreached(w: &[u32; NUMBERS], back: bool, start: u64) -> Option<u32>
+    requires { (Rules (workflow w.now)) × (start < 2 ^ (workflow w.now).node_count) }
+    ensures { result ≡ lowest (workflow w.now).node_count (unreached (workflow w.now) back start) }
 {
     if is_0_2(w) {
-        let reached = closed(w, false, bit(w[layout::START]));
-        return missing(reached, w[layout::NODE_COUNT]);
+        missing(closed(w, back, start), w[layout::NODE_COUNT])
+    } else {
+        None
     }
-    None
 }
 
 pub fn rule_14(w: &[u32; NUMBERS]) -> Result<(), Broken>
     requires { Rules (workflow w.now) }
     ensures { result ≡ rule_at Refusal.Unreached (lowest (workflow w.now).node_count (breaks_14 (workflow w.now))) }
 {
-    rule_at(Refusal::Unreached, lowest_14(w))
-}
-
-fn lowest_15(w: &[u32; NUMBERS]) -> Option<u32>
-    requires { Rules (workflow w.now) }
-    ensures { result ≡ lowest (workflow w.now).node_count (breaks_15 (workflow w.now)) }
-{
-    if is_0_2(w) {
-        let ending = closed(w, true, ends(w));
-        return missing(ending, w[layout::NODE_COUNT]);
-    }
-    None
+    rule_at(
+        Refusal::Unreached,
+        lowest_unreached(w, false, bit(w[layout::START])),
+    )
 }
 
 pub fn rule_15(w: &[u32; NUMBERS]) -> Result<(), Broken>
     requires { Rules (workflow w.now) }
     ensures { result ≡ rule_at Refusal.Unending (lowest (workflow w.now).node_count (breaks_15 (workflow w.now))) }
 {
-    rule_at(Refusal::Unending, lowest_15(w))
+    rule_at(Refusal::Unending, lowest_unreached(w, true, ends(w)))
 }

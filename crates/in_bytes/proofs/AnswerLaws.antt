@@ -103,15 +103,14 @@ module _ {whole xs ys : List ℕ} (parts : BytesFirst whole xs ys) where
 
 -- What stands before the run, by the kind.
 module _ (ns : List ℕ) where
-  pub next_head : {p q : ℕ} → get_or ns layout.answer_kind 0 ≡ 1 → p ≡ notes_end ns → q ≡ layout.answer_endings + ended ns → BytesFirst (bytes_of (answer_head ns)) (bytes_of (part ns 0 p)) (bytes_of (part ns layout.answer_endings q))
+  pub next_head : {p q : ℕ} → get_or ns layout.answer_kind 0 ≡ 1 → p ≡ notes_end ns → q ≡ layout.answer_endings + ended ns → BytesFirst (bytes_of (answer_head ns)) (bytes_of (take p ns)) (bytes_of (part ns layout.answer_endings q))
   unfolding answer_head part when◌then◌else◌
   next_head {p} {q} kind e f =
-      let a : p - 0 ≡ notes_end ns = omega arith in
       let b : q - layout.answer_endings ≡ ended ns = omega arith in
-      record { is = rw (eq-eqb (get_or ns layout.answer_kind 0) 1 kind, a, b) (bytes_append _ _) }
+      record { is = rw (eq-eqb (get_or ns layout.answer_kind 0) 1 kind, ← e, b) (bytes_append _ _) }
 
-  pub want_head : (get_or ns layout.answer_kind 0 ≡ 1 → ⊥) → answer_head ns ≡ part ns 0 layout.want_width
-  unfolding answer_head part when◌then◌else◌
+  pub want_head : (get_or ns layout.answer_kind 0 ≡ 1 → ⊥) → answer_head ns ≡ take layout.want_width ns
+  unfolding answer_head when◌then◌else◌
   want_head other = rw (ne_eqb (get_or ns layout.answer_kind 0) 1 other)
 
   head_long : length (answer_head ns) ≤ layout.answer_record

@@ -1,7 +1,7 @@
 -- The boundary's functions by their tests.
-use Rattle.std.specs.Prelude.{◌≡◌, Bool, List, [], ℕ, ◌+◌, ◌-◌, ◌≤◌, ◌<◌, length}
+use Rattle.std.specs.Prelude.{◌≡◌, Option, Bool, List, [], ℕ, ◌+◌, ◌≤◌, ◌<◌, length}
 use Rattle.std.proofs.Math.Path.{refl, ap}
-use Rattle.std.proofs.Common.{sym, ◌∙◌, append-nil, arith, take_all}
+use Rattle.std.proofs.Common.{sym, ◌∙◌, append-nil, arith}
 use Rattle.std.proofs.Math.Bool.{true, false}
 use Rattle.std.proofs.lemmas.Bool.{false≢true}
 use Rattle.std.proofs.Math.Dec.{eqb}
@@ -11,9 +11,8 @@ use Rattle.laws.specs.Splice.{splice, splice_all}
 use Rattle.workflow.specs.Layout.{numbers as sheet_length}
 use Rattle.host.specs.Layout as layout
 use Rattle.host.specs.Read.{at, record_fits}
-use Rattle.codec.specs.declared.numbers.Place.{Place}
 use Rattle.codec.specs.Read.{Read, got, bad}
-use Rattle.codec.specs.Numbers.{bytes_of, part}
+use Rattle.codec.specs.Numbers.{bytes_of}
 use Rattle.codec.specs.Stages.{Shape, numbers}
 use Rattle.codec.specs.Stored.{place_of, Stored}
 use Rattle.codec.specs.Exact.{Bytes, Exact}
@@ -34,10 +33,10 @@ module _ {o : Outcome} (array : List ℕ) where
   unfolding returned left
   done_by e = (rw e, rw e)
 
--- A list is all of its parts.
-pub part_all : (xs : List ℕ) {k : ℕ} → length xs ≡ k → part xs 0 (0 + k) ≡ xs
-unfolding part
-part_all xs {k} e = let z : 0 + k - 0 ≡ k = omega arith in rw z (take_all k xs (omega arith))
+  -- a whole array is filled
+  pub done_all : {size : ℕ} {contents : List ℕ} → o ≡ done size contents → length contents ≡ length array → (packed layout.written size ≡ returned o) × (contents ≡ left o array)
+  unfolding returned left
+  done_all {size} {contents} e long = (rw e, rw e (sym (splice_all array contents long)))
 
 -- All the bytes of a value are read back.
 pub all_back : (shape : Shape) → Exact shape → (ns : List ℕ) → shape.tidy ns ≡ true → shape.read (bytes_of (shape.fields ns)) 0 ≡ got ns (length (bytes_of (shape.fields ns)))
@@ -103,7 +102,7 @@ pub record Whole (size : ℕ) (read : Read (List ℕ)) : Type 0 where
   pub is : read ≡ got ns size
   pub all : ended size read ≡ got ns size
 
-module _ (size : ℕ) {z : Place} where
+module _ (size : ℕ) {z : Option ℕ} where
   pub not_whole : (read : Read (List ℕ)) → z ≡ place_of read → ends_at size z ≡ false → ended size read ≡ bad
   unfolding place_of ends_at ended when◌then◌else◌
   not_whole bad e h = refl

@@ -1,5 +1,5 @@
 -- A call read step by step, with its sheet and without: into the arrays of the sheet, the call and the run.
-use Rattle.std.specs.Prelude.{◌≡◌, refl, List, [], ◌∷◌, ◌++◌, ℕ, ◌+◌, ◌-◌, ◌^◌, replicate}
+use Rattle.std.specs.Prelude.{◌≡◌, Option, Some, None, refl, List, [], ◌∷◌, ◌++◌, ℕ, ◌+◌, ◌-◌, ◌^◌, replicate}
 use Rattle.std.proofs.Math.Path.{sym, ap}
 use Rattle.std.proofs.Common.{◌∙◌, append_assoc, length-drop, length-take-le}
 use native.Mathlib.Omega.{arith}
@@ -9,7 +9,6 @@ use Rattle.std.proofs.Math.Seq.{take_at, drop_at, take-append-add, drop-append-a
 use Rattle.laws.specs.Splice.{splice, splice_all, splice_more}
 use Rattle.workflow.specs.Layout.{numbers as sheet_length}
 use Rattle.host.specs.Layout as layout
-use Rattle.codec.specs.declared.numbers.Place.{Place}
 use Rattle.codec.specs.Read.{Read, got, bad}
 use Rattle.codec.specs.Numbers.{numbers_at}
 use Rattle.codec.specs.Stages.{numbers}
@@ -66,12 +65,12 @@ on_start : (bytes : List ℕ) → Left (limits ∷ the_rest ∷ []) bytes (call_
 unfolding call_on
 on_start bytes = left_start (limits ∷ the_rest ∷ []) bytes 0
 
-module _ (bytes : List ℕ) {z : Place} (answer : z ≡ place_of (numbers_at (2 ^ 64) layout.call_has_record bytes 0)) where
-  pub limits_bad : z ≡ Place.Bad → call.read bytes 0 ≡ bad
+module _ (bytes : List ℕ) {z : Option ℕ} (answer : z ≡ place_of (numbers_at (2 ^ 64) layout.call_has_record bytes 0)) where
+  pub limits_bad : z ≡ None → call.read bytes 0 ≡ bad
   unfolding numbers
   limits_bad b = left_bad (call_start bytes) (at_bad answer b)
 
-  pub on_bad : z ≡ Place.Bad → call_on.read bytes 0 ≡ bad
+  pub on_bad : z ≡ None → call_on.read bytes 0 ≡ bad
   unfolding numbers
   on_bad b = left_bad (on_start bytes) (at_bad answer b)
 
@@ -84,7 +83,7 @@ pub record Limited (bytes before list : List ℕ) (at : ℕ) : Type 0 where
   pub blank : before ≡ replicate layout.call_length 0
   pub good : Bytes bytes
 
-pub limited : {bytes : List ℕ} {z : Place} {before list : List ℕ} {p : ℕ} → z ≡ place_of (numbers_at (2 ^ 64) layout.call_has_record bytes 0) → z ≡ Place.At p → Stored (numbers_at (2 ^ 64) layout.call_has_record bytes 0) before 0 list → before ≡ replicate layout.call_length 0 → Bytes bytes → Limited bytes before list p
+pub limited : {bytes : List ℕ} {z : Option ℕ} {before list : List ℕ} {p : ℕ} → z ≡ place_of (numbers_at (2 ^ 64) layout.call_has_record bytes 0) → z ≡ Some p → Stored (numbers_at (2 ^ 64) layout.call_has_record bytes 0) before 0 list → before ≡ replicate layout.call_length 0 → Bytes bytes → Limited bytes before list p
 limited {bytes} {z} {before} {list} {p} answer e stored blank good =
     let g = at_got answer e in
     record { first = g.value; read = g.is; is = stored.is g.value p g.is; many = numbers_long (2 ^ 64) bytes layout.call_has_record 0 g.value p g.is; blank = blank; good = good }
@@ -126,7 +125,7 @@ module _ {bytes before list : List ℕ} {at : ℕ} (inv : Limited bytes before l
   unfolding numbers
   on_next = left_more (on_start bytes) inv.read
 
-  module _ {z : Place} {after given : List ℕ} (stored : RestStored (rest.read bytes at) list after given) where
+  module _ {z : Option ℕ} {after given : List ℕ} (stored : RestStored (rest.read bytes at) list after given) where
     on_by_rest : (r : Read (List ℕ)) → rest.read bytes at ≡ r → z ≡ place_of r → (z ≡ place_of (call_on.read bytes 0)) × OnStored (call_on.read bytes 0) after given
     unfolding place_of
     on_by_rest bad e a = let b = left_bad on_next e in (a ∙ bad_place b, bad_on b)
@@ -155,11 +154,11 @@ module _ {bytes before list : List ℕ} {at : ℕ} (inv : Limited bytes before l
   unfolding numbers
   sheet_next = left_more (call_start bytes) inv.read
 
-  module _ {y : Place} (told : y ≡ place_of (sheet.read bytes at)) where
-    pub sheet_bad : y ≡ Place.Bad → call.read bytes 0 ≡ bad
+  module _ {y : Option ℕ} (told : y ≡ place_of (sheet.read bytes at)) where
+    pub sheet_bad : y ≡ None → call.read bytes 0 ≡ bad
     sheet_bad b = left_bad sheet_next (at_bad told b)
 
-    module _ {zeros graph : List ℕ} {p : ℕ} (there : y ≡ Place.At p) (none : zeros ≡ replicate sheet_length 0) (graphed : Stored (sheet.read bytes at) zeros 0 graph) where
+    module _ {zeros graph : List ℕ} {p : ℕ} (there : y ≡ Some p) (none : zeros ≡ replicate sheet_length 0) (graphed : Stored (sheet.read bytes at) zeros 0 graph) where
       -- the array has the sheet's numbers
       graph_read : (sheet.read bytes at ≡ got graph p) × (length graph ≡ sheet_length)
       graph_read =
@@ -173,7 +172,7 @@ module _ {bytes before list : List ℕ} {at : ℕ} (inv : Limited bytes before l
       rest_next : Left (the_rest ∷ []) bytes (call.read bytes 0) (inv.first ++ graph) p
       rest_next = left_more sheet_next graph_read.0
 
-      module _ {z : Place} {after given : List ℕ} (stored : RestStored (rest.read bytes p) list after given) where
+      module _ {z : Option ℕ} {after given : List ℕ} (stored : RestStored (rest.read bytes p) list after given) where
         by_rest : (r : Read (List ℕ)) → rest.read bytes p ≡ r → z ≡ place_of r → (z ≡ place_of (call.read bytes 0)) × CallStored (call.read bytes 0) graph after given
         unfolding place_of
         by_rest bad e a = let b = left_bad rest_next e in (a ∙ bad_place b, bad_call b)

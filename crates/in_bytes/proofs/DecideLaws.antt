@@ -1,5 +1,5 @@
 -- What a call decides, by what was read of its bytes and what the number form returned.
-use Rattle.std.specs.Prelude.{◌≡◌, Bool, true, false, ℕ, ◌+◌, ◌-◌, ◌^◌, eqb, length, take, drop}
+use Rattle.std.specs.Prelude.{◌≡◌, Option, Bool, true, false, ℕ, ◌+◌, ◌-◌, ◌^◌, eqb, length, take, drop}
 use Rattle.std.proofs.Math.Path.{refl, ap}
 use Rattle.std.proofs.Common.{sym, ◌∙◌, arith, length-append, length-drop, length-take-le, eqb-true, eq-eqb, ne_eqb}
 use Rattle.std.proofs.lemmas.Bool.{false≢true}
@@ -11,7 +11,6 @@ use Rattle.workflow.specs.Layout.{numbers as sheet_length}
 use Rattle.host.specs.Layout as layout
 use Rattle.host.specs.Write.{decision_numbers}
 use Rattle.host.specs.Host.{receipt, decided, answered, Full}
-use Rattle.codec.specs.declared.numbers.Place.{Place}
 use Rattle.codec.specs.Read.{Read, bad}
 use Rattle.codec.specs.Numbers.{part, numbers_at, all_below}
 use Rattle.codec.specs.Stages.{numbers, beside, widths, staged}
@@ -28,7 +27,7 @@ use Rattle.in_bytes.proofs.BoundaryLaws.{Whole}
 
 -- AN EVENT'S BYTES are read as numbers.
 module _ (bytes : List ℕ) where
-  pub event_place : {z : Place} → z ≡ place_of (numbers_at (2 ^ 64) layout.event_length bytes 0) → z ≡ place_of (event.read bytes 0)
+  pub event_place : {z : Option ℕ} → z ≡ place_of (numbers_at (2 ^ 64) layout.event_length bytes 0) → z ≡ place_of (event.read bytes 0)
   unfolding event numbers
   event_place e = e
 

@@ -1,5 +1,5 @@
 -- What stands behind the sheet of a call, read step by step: into the call's array, and into the run's.
-use Rattle.std.specs.Prelude.{◌≡◌, Bool, true, false, eqb, replicate}
+use Rattle.std.specs.Prelude.{◌≡◌, Option, Some, None, Bool, true, false, eqb, replicate}
 use Rattle.std.proofs.Math.Path.{refl, sym, ap}
 use Rattle.std.proofs.Common.{◌∙◌}
 use mathlib.Core.List.{List, [], ◌∷◌, ◌++◌, append_assoc}
@@ -13,7 +13,6 @@ use Rattle.laws.specs.Splice.{splice, splice_all, splice_more, length_splice}
 use Rattle.laws.specs.Listing.{padded}
 use Rattle.host.specs.Layout as layout
 use Rattle.host.specs.Write.{marked}
-use Rattle.codec.specs.declared.numbers.Place.{Place}
 use Rattle.codec.specs.Read.{Read, got, bad, onward}
 use Rattle.codec.specs.Leb.{number_at}
 use Rattle.codec.specs.Numbers.{number_below, numbers_at}
@@ -115,12 +114,12 @@ pub record Marked (bytes : List ℕ) (whole : Read (List ℕ)) (before : List �
   pub left : Left given_on bytes whole (get_or call layout.call_has_record 0 ∷ []) at
   pub held : MarkHeld before call
 
-module _ (bytes : List ℕ) (start : ℕ) {z : Place} (answer : z ≡ place_of (numbers_at (2 ^ 64) 1 bytes start)) where
-  pub mark_bad : z ≡ Place.Bad → rest.read bytes start ≡ bad
+module _ (bytes : List ℕ) (start : ℕ) {z : Option ℕ} (answer : z ≡ place_of (numbers_at (2 ^ 64) 1 bytes start)) where
+  pub mark_bad : z ≡ None → rest.read bytes start ≡ bad
   unfolding numbers
   mark_bad b = left_bad (rest_start bytes start) (one_bad bytes start 2 (at_bad answer b))
 
-  module _ {before call : List ℕ} {p : ℕ} (e : z ≡ Place.At p) (long : length before ≡ layout.call_length) (stored : Stored (numbers_at (2 ^ 64) 1 bytes start) before layout.call_has_record call) where
+  module _ {before call : List ℕ} {p : ℕ} (e : z ≡ Some p) (long : length before ≡ layout.call_length) (stored : Stored (numbers_at (2 ^ 64) 1 bytes start) before layout.call_has_record call) where
     abbrev number : ℕ
     number = get_or call layout.call_has_record 0
 
@@ -164,7 +163,7 @@ module _ (has : Bool) (bytes : List ℕ) (at : ℕ) (none : has ≡ false) where
   unfolding when◌then◌else◌
   none_read = rw none (no_column layout.record_length bytes at)
 
-  pub none_place : Place.At at ≡ place_of ((given_shape (marked has)).read bytes at)
+  pub none_place : Some at ≡ place_of ((given_shape (marked has)).read bytes at)
   none_place = got_place none_read
 
   pub none_stored : {blank : List ℕ} → blank ≡ replicate layout.record_length 0 → Stored ((given_shape (marked has)).read bytes at) blank 0 blank
@@ -176,11 +175,11 @@ pub record Given (bytes : List ℕ) (whole : Read (List ℕ)) (before : List ℕ
   pub held : MarkHeld before call
   pub run_long : length run ≡ layout.record_length
 
-module _ {bytes : List ℕ} {whole : Read (List ℕ)} {before : List ℕ} {at : ℕ} {call : List ℕ} (inv : Marked bytes whole before at call) {z : Place} (answer : z ≡ place_of ((given_shape (marked (eqb (get_or call layout.call_has_record 0) 1))).read bytes at)) where
-  pub given_bad : z ≡ Place.Bad → whole ≡ bad
+module _ {bytes : List ℕ} {whole : Read (List ℕ)} {before : List ℕ} {at : ℕ} {call : List ℕ} (inv : Marked bytes whole before at call) {z : Option ℕ} (answer : z ≡ place_of ((given_shape (marked (eqb (get_or call layout.call_has_record 0) 1))).read bytes at)) where
+  pub given_bad : z ≡ None → whole ≡ bad
   given_bad b = left_bad inv.left (at_bad (rw same_mark at answer) b)
 
-  pub given_read : {blank run : List ℕ} {p : ℕ} → z ≡ Place.At p → Bytes bytes → blank ≡ replicate layout.record_length 0 → Stored ((given_shape (marked (eqb (get_or call layout.call_has_record 0) 1))).read bytes at) blank 0 run → Given bytes whole before p call run
+  pub given_read : {blank run : List ℕ} {p : ℕ} → z ≡ Some p → Bytes bytes → blank ≡ replicate layout.record_length 0 → Stored ((given_shape (marked (eqb (get_or call layout.call_has_record 0) 1))).read bytes at) blank 0 run → Given bytes whole before p call run
   given_read {blank} {run} {p} e good zeros stored =
       let number = get_or call layout.call_has_record 0 in
       let g = at_got (rw same_mark at answer) e in
@@ -207,6 +206,12 @@ module _ {bytes : List ℕ} {whole : Read (List ℕ)} {before : List ℕ} {at : 
   abbrev both_parts : Read (List ℕ)
   both_parts = numbers_at (2 ^ 64) (layout.event_length + 1) bytes at
 
+  pub given_long : length call ≡ layout.call_length
+  given_long =
+      let h = inv.held in
+      let n = h.long in
+      rw h.is (length_splice before layout.call_has_record (get_or call layout.call_has_record 0 ∷ []) (omega arith) ∙ n)
+
   behind_event : (r : Read (List ℕ)) → numbers_at (2 ^ 64) layout.event_length bytes at ≡ r → onward r (λ xs p. onward (numbers_at (2 ^ 64) 1 bytes p) (λ ys q. got (xs ++ ys) q)) ≡ bad → whole ≡ bad
   unfolding numbers onward
   behind_event bad f e = left_bad inv.left f
@@ -216,11 +221,11 @@ module _ {bytes : List ℕ} {whole : Read (List ℕ)} {before : List ℕ} {at : 
       no_count bad e = refl
       no_count (got ys q) e = not_bad (sym e)
 
-  module _ {z : Place} (answer : z ≡ place_of both_parts) where
-    pub event_bad : z ≡ Place.Bad → whole ≡ bad
+  module _ {z : Option ℕ} (answer : z ≡ place_of both_parts) where
+    pub event_bad : z ≡ None → whole ≡ bad
     event_bad b = behind_event (numbers_at (2 ^ 64) layout.event_length bytes at) refl (sym (numbers_two (2 ^ 64) bytes layout.event_length 1 at) ∙ at_bad answer b)
 
-    module _ {after : List ℕ} {p : ℕ} (e : z ≡ Place.At p) (stored : Stored both_parts call layout.call_sequence after) where
+    module _ {after : List ℕ} {p : ℕ} (e : z ≡ Some p) (stored : Stored both_parts call layout.call_sequence after) where
       abbrev count_of : ℕ
       count_of = get_or after layout.call_answered 0
 
@@ -233,12 +238,6 @@ module _ {bytes : List ℕ} {whole : Read (List ℕ)} {before : List ℕ} {at : 
         is : after ≡ splice call layout.call_sequence (xs ++ (count_of ∷ []))
         long : length xs ≡ layout.event_length
 
-      call_long : length call ≡ layout.call_length
-      call_long =
-          let h = inv.held in
-          let n = h.long in
-          rw h.is (length_splice before layout.call_has_record (get_or call layout.call_has_record 0 ∷ []) (omega arith) ∙ n)
-
       two_parts : TwoParts
       two_parts =
           let g = at_got answer e in
@@ -249,7 +248,7 @@ module _ {bytes : List ℕ} {whole : Read (List ℕ)} {before : List ℕ} {at : 
           let y : b.place ≡ p = cc in
           let n = numbers_long (2 ^ 64) bytes layout.event_length at a.value a.place a.one in
           let m = numbers_long (2 ^ 64) bytes 1 a.place b.value b.place b.one in
-          let l = call_long in
+          let l = given_long in
           let s : after ≡ splice call layout.call_sequence (a.value ++ b.value) = stored.is g.value p g.is ∙ ap (splice call layout.call_sequence) (sym x) in
           let k = length-append a.value b.value in
           let i : layout.event_length ≡ length a.value + 0 = omega arith in
@@ -329,7 +328,7 @@ module _ {bytes : List ℕ} {whole : Read (List ℕ)} {before : List ℕ} {at : 
       let i = ends_there in
       rw (← inv.is, i) at (zero_behind before layout.call_has_record inv.blank (inv.mark ∷ inv.event) (omega arith))
 
-  module _ {z : Place} {after : List ℕ} (stored : Stored ((column (2 ^ 64) room used).read bytes at) call layout.call_mappings after) where
+  module _ {z : Option ℕ} {after : List ℕ} (stored : Stored ((column (2 ^ 64) room used).read bytes at) call layout.call_mappings after) where
     by_answers : (r : Read (List ℕ)) → (column (2 ^ 64) room used).read bytes at ≡ r → z ≡ place_of r → (z ≡ place_of whole) × RestStored whole before after run
     unfolding place_of
     by_answers bad e a = let b = left_bad inv.left e in (a ∙ bad_place b, bad_rest b)
@@ -346,7 +345,7 @@ module _ {bytes : List ℕ} {whole : Read (List ℕ)} {before : List ℕ} {at : 
         stored.is ns p e ∙ ap (λ (xs : List ℕ). splice xs layout.call_mappings ns) inv.is ∙ splice_more before layout.call_has_record (inv.mark ∷ inv.event) ns layout.call_mappings (sym i) (omega arith) in
         (a ∙ got_place all, got_rest all (c ∙ ap (λ (xs : List ℕ). splice before layout.call_has_record (inv.mark ∷ xs)) (sym d)) (sym t))
 
-  pub answers_read : {z : Place} {after : List ℕ} {end : ℕ} → end ≡ layout.call_mappings + layout.mapping_width * get_or call layout.call_answered 0 → z ≡ place_of (numbers_at (2 ^ 64) (end - layout.call_mappings) bytes at) → Stored (numbers_at (2 ^ 64) (end - layout.call_mappings) bytes at) call layout.call_mappings after → (z ≡ place_of whole) × RestStored whole before after run
+  pub answers_read : {z : Option ℕ} {after : List ℕ} {end : ℕ} → end ≡ layout.call_mappings + layout.mapping_width * get_or call layout.call_answered 0 → z ≡ place_of (numbers_at (2 ^ 64) (end - layout.call_mappings) bytes at) → Stored (numbers_at (2 ^ 64) (end - layout.call_mappings) bytes at) call layout.call_mappings after → (z ≡ place_of whole) × RestStored whole before after run
   answers_read {z} {after} {end} ends answer stored =
       let c = inv.count in
       let many : end - layout.call_mappings ≡ used = omega arith in

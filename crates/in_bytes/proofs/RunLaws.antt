@@ -1,17 +1,16 @@
 -- A run as bytes: both ways; and its stages in a lent list.
-use Rattle.std.specs.Prelude.{◌≡◌, Bool, true, false, ◌&&◌, leb, replicate}
+use Rattle.std.specs.Prelude.{◌≡◌, Option, Some, None, Bool, true, false, ◌&&◌, leb, replicate}
 use Rattle.std.proofs.Math.Path.{refl, sym, ap}
 use Rattle.std.proofs.Common.{◌∙◌, length-append, take-append-drop}
 use mathlib.Core.List.{List, [], ◌∷◌, ◌++◌, append_assoc}
 use Prim.Native.Nat.{ℕ, suc, ◌+◌, ◌*◌, ◌-◌, ◌^◌, ◌≤◌, ◌<◌, min}
 use native.Mathlib.Omega.{arith}
-use Rattle.std.proofs.Math.ListN.{length, get_or}
+use Rattle.std.proofs.Math.ListN.{length, get_or, take}
 use Rattle.std.proofs.lemmas.List.{length-replicate}
 use Rattle.std.proofs.Math.Seq.{take_all}
 use borrow.Author.Tests.{eq-eqb, leb-true, leb-false}
 use Rattle.laws.specs.All.{All}
 use Rattle.laws.specs.Bool.{split, ◌and◌}
-use Rattle.codec.specs.declared.numbers.Place.{Place}
 use Rattle.codec.specs.Read.{Read, bad}
 use Rattle.codec.specs.Numbers.{bytes_of, numbers_at, part}
 use Rattle.codec.specs.Stages.{Stage, widths, numbers, column, all_zero}
@@ -20,15 +19,16 @@ use Rattle.codec.specs.Stored.{place_of, Stored}
 use Rattle.codec.specs.Exact.{Bytes, Exact}
 use Rattle.codec.proofs.ExactLaws.{bytes_append}
 use Rattle.codec.proofs.Loops.{BytesFirst}
-use Rattle.codec.proofs.NumbersLaws.{numbers_exact}
+use Rattle.codec.proofs.NumbersLaws.{numbers_exact, numbers_long}
+use Rattle.codec.proofs.NumbersLoops.{part_all}
 use Rattle.codec.proofs.Parts.{part_long, part_front, part_back, part_below}
-use Rattle.codec.proofs.PartLaws.{get_d_part, length_part}
+use Rattle.codec.proofs.PartLaws.{get_d_part, length_part, put_part, part_stored, part_in}
 use Rattle.codec.proofs.SlotsLaws.{slots_width, slots_exact}
 use Rattle.codec.proofs.ColumnsLaws.{column_exact, StageExact, staged_width, staged_exact, exact_few}
 use Rattle.codec.proofs.ColumnsLoops.{column_over, column_place, column_stored, used_part, column_neat, column_crowded}
 use Rattle.host.specs.Layout as layout
 use Rattle.in_bytes.specs.Run.{single_numbers, stored_signals, all_visits, all_streaks, all_results, run}
-use Rattle.in_bytes.proofs.StagesLoops.{ReadingStages, stages_start, stages_seen, stage_room, stage_bad, stage_refused, stage_more, stages_neat, stages_written, no_stage_neat, no_stage_written}
+use Rattle.in_bytes.proofs.StagesLoops.{ReadingStages, stages_start, stages_seen, stage_room, stage_stored, stage_bad, stage_refused, stage_more, stages_neat, stages_written, no_stage_neat, no_stage_written}
 
 -- THE STAGES, each exact.
 pub numbers_stage : (k : ℕ) → StageExact (record { room = k; shape = λ _. numbers (2 ^ 64) k })
@@ -42,16 +42,16 @@ column_stage room used = record { exact = λ seen. column_exact (2 ^ 64) room (u
 slots_stage : (before after k room : ℕ) → room ≡ (before + suc after) * k → StageExact (record { room = room; shape = λ _. slots (2 ^ 64) before after k })
 slots_stage before after k room e = record { exact = λ _. slots_exact (2 ^ 64) before after k (omega arith); wide = λ _. slots_width (2 ^ 64) before after k ∙ sym e }
 
-abbrev from_results : List Stage
+abbrev pub from_results : List Stage
 from_results = all_results ∷ []
 
-abbrev from_streaks : List Stage
+abbrev pub from_streaks : List Stage
 from_streaks = all_streaks ∷ from_results
 
-abbrev from_visits : List Stage
+abbrev pub from_visits : List Stage
 from_visits = all_visits ∷ from_streaks
 
-abbrev from_signals : List Stage
+abbrev pub from_signals : List Stage
 from_signals = stored_signals ∷ from_visits
 
 pub results_exact : All StageExact from_results
@@ -86,15 +86,18 @@ run_start bytes before start blank =
     let e : length before - 0 ≡ layout.record_length = omega arith in
     stages_start (single_numbers ∷ from_signals) bytes before start head_exact (omega arith) (rw e blank)
 
--- a stage of numbers, all of them used
-module _ {k : ℕ} {stages : List Stage} {bytes : List ℕ} {whole : Read (List ℕ)} {before : List ℕ} {at i : ℕ} {list : List ℕ} (exact : All StageExact (record { room = k; shape = λ _. numbers (2 ^ 64) k } ∷ stages)) (inv : ReadingStages (record { room = k; shape = λ _. numbers (2 ^ 64) k } ∷ stages) bytes whole before at i list) {z : Place} (answer : z ≡ place_of (numbers_at (2 ^ 64) k bytes at)) where
-  pub numbers_bad : z ≡ Place.Bad → whole ≡ bad
-  unfolding numbers
-  numbers_bad b = stage_refused exact inv answer b
+-- a stage of numbers, all of them used, read into its part of the list
+module _ {k : ℕ} {stages : List Stage} {bytes : List ℕ} {whole : Read (List ℕ)} {before : List ℕ} {at i : ℕ} {list : List ℕ} (exact : All StageExact (record { room = k; shape = λ _. numbers (2 ^ 64) k } ∷ stages)) (inv : ReadingStages (record { room = k; shape = λ _. numbers (2 ^ 64) k } ∷ stages) bytes whole before at i list) {z : Option ℕ} (answer : z ≡ place_of (numbers_at (2 ^ 64) (length (part list i (i + k))) bytes at)) where
+  as_many : length (part list i (i + k)) ≡ k
+  as_many = part_long list i k (stage_room exact inv)
 
-  pub numbers_more : {p : ℕ} {after : List ℕ} → Bytes bytes → z ≡ Place.At p → Stored (numbers_at (2 ^ 64) k bytes at) list i after → ReadingStages stages bytes whole before p (i + k) after
+  pub numbers_bad : z ≡ None → whole ≡ bad
   unfolding numbers
-  numbers_more good e s = stage_more exact inv good answer e s
+  numbers_bad b = stage_refused exact inv (rw as_many at answer) b
+
+  pub numbers_more : {p : ℕ} {ys : List ℕ} → Bytes bytes → z ≡ Some p → Stored (numbers_at (2 ^ 64) (length (part list i (i + k))) bytes at) (part list i (i + k)) 0 ys → ReadingStages stages bytes whole before p (i + k) (put_part list i (i + k) ys)
+  unfolding numbers
+  numbers_more good e s = stage_more exact inv good (rw as_many at answer) e (stage_stored exact inv good (rw as_many at s))
 
 -- the stored signals, of which the list has the count
 module _ {bytes : List ℕ} {whole : Read (List ℕ)} {before : List ℕ} {at : ℕ} {list : List ℕ} (inv : ReadingStages from_signals bytes whole before at layout.record_signals list) where
@@ -112,23 +115,31 @@ module _ {bytes : List ℕ} {whole : Read (List ℕ)} {before : List ℕ} {at : 
       let u = used_is in
       stage_bad signals_exact inv (column_over (2 ^ 64) (layout.signal_width * layout.store) used bytes at (omega arith))
 
-  module _ {end : ℕ} {z : Place} (low : count ≤ layout.store) (ends : end ≡ layout.record_signals + layout.signal_width * min count layout.store) (answer : z ≡ place_of (numbers_at (2 ^ 64) (end - layout.record_signals) bytes at)) where
+  module _ {end : ℕ} (low : count ≤ layout.store) (ends : end ≡ layout.record_signals + layout.signal_width * min count layout.store) where
+    pub signals_within : end ≤ length list
+    signals_within = let u = used_is in let r = stage_room signals_exact inv in omega arith
+
+  module _ {end : ℕ} {z : Option ℕ} (low : count ≤ layout.store) (ends : end ≡ layout.record_signals + layout.signal_width * min count layout.store) (answer : z ≡ place_of (numbers_at (2 ^ 64) (length (part list layout.record_signals end)) bytes at)) where
     low_used : used ≤ layout.signal_width * layout.store
     low_used = let u = used_is in omega arith
 
-    many : end - layout.record_signals ≡ used
-    many = let u = used_is in omega arith
+    within : end ≤ length list
+    within = signals_within low ends
+
+    many : length (part list layout.record_signals end) ≡ used
+    many = let u = used_is in length_part list layout.record_signals end within ∙ omega arith
 
     answered : z ≡ place_of ((stored_signals.shape inv.seen).read bytes at)
     answered = column_place (2 ^ 64) (layout.signal_width * layout.store) used bytes at low_used (rw many at answer)
 
-    pub signals_bad : z ≡ Place.Bad → whole ≡ bad
+    pub signals_bad : z ≡ None → whole ≡ bad
     signals_bad b = stage_refused signals_exact inv answered b
 
-    pub signals_more : {p : ℕ} {after : List ℕ} → Bytes bytes → z ≡ Place.At p → Stored (numbers_at (2 ^ 64) (end - layout.record_signals) bytes at) list layout.record_signals after → ReadingStages from_visits bytes whole before p layout.record_visits after
+    pub signals_more : {p : ℕ} {ys : List ℕ} → Bytes bytes → z ≡ Some p → Stored (numbers_at (2 ^ 64) (length (part list layout.record_signals end)) bytes at) (part list layout.record_signals end) 0 ys → ReadingStages from_visits bytes whole before p layout.record_visits (put_part list layout.record_signals end ys)
     signals_more good e s =
-        stage_more signals_exact inv good answered e
-        (column_stored (2 ^ 64) (layout.signal_width * layout.store) used bytes at low_used (stage_room signals_exact inv) inv.reading.blank (rw many at s))
+        let u = used_is in
+        let s' = part_stored list layout.record_signals end (omega arith) within (λ ns p e. let n = numbers_long (2 ^ 64) bytes used at ns p e in omega arith) (rw many at s) in
+        stage_more signals_exact inv good answered e (column_stored (2 ^ 64) (layout.signal_width * layout.store) used bytes at low_used (stage_room signals_exact inv) inv.reading.blank s')
 
 three : (a b c : Bool) → (a and (b and (c and true))) ≡ ((a && b) && c)
 unfolding ◌and◌
@@ -156,6 +167,23 @@ module _ (xs : List ℕ) (at : ℕ) (room : at + layout.record_length ≤ length
 
   abbrev results : List ℕ
   results = part xs (at + layout.record_results) (at + layout.record_length)
+
+  -- what a slice from the streaks or the results on has of them
+  abbrev streaks_held : List ℕ
+  streaks_held = part (part xs (at + layout.record_streaks) (at + layout.record_length)) 0 (layout.streak_width * layout.nodes)
+
+  abbrev results_held : List ℕ
+  results_held = part (part xs (at + layout.record_results) (at + layout.record_length)) 0 (layout.result_width * layout.nodes)
+
+  streaks_in : streaks_held ≡ streaks
+  streaks_in =
+      let k : at + layout.record_streaks + layout.streak_width * layout.nodes ≡ at + layout.record_results = omega arith in
+      rw k at (part_in xs (at + layout.record_streaks) (at + layout.record_length) (layout.streak_width * layout.nodes) (omega arith))
+
+  results_in : results_held ≡ results
+  results_in =
+      let l : at + layout.record_results + layout.result_width * layout.nodes ≡ at + layout.record_length = omega arith in
+      rw l at (part_in xs (at + layout.record_results) (at + layout.record_length) (layout.result_width * layout.nodes) (omega arith))
 
   head_count : get_or head layout.record_stored 0 ≡ stored
   head_count = get_d_part xs at (at + layout.record_signals) layout.record_stored 0 (omega arith)
@@ -198,18 +226,16 @@ module _ (xs : List ℕ) (at : ℕ) (room : at + layout.record_length ≤ length
       let f = rw e at (column_crowded (2 ^ 64) (layout.signal_width * layout.store) (layout.signal_width * get_or head layout.record_stored 0) xs (at + layout.record_signals) (omega arith) (omega arith)) in
       sym (open_tests small ∙ rw f)
 
-  pub run_neat : {end : ℕ} {a b c : Bool} → ((n : ℕ) → get_or xs n 0 < 2 ^ 64) → stored ≤ layout.store → end ≡ layout.record_signals + layout.signal_width * min stored layout.store → a ≡ all_zero (part xs (at + end) (at + layout.record_visits)) → b ≡ (slots (2 ^ 64) 1 0 layout.nodes).tidy (part xs (at + layout.record_streaks) (at + layout.record_streaks + layout.streak_width * layout.nodes)) → c ≡ (slots (2 ^ 64) 2 3 layout.nodes).tidy (part xs (at + layout.record_results) (at + layout.record_results + layout.result_width * layout.nodes)) → ((a && b) && c) ≡ run.tidy (part xs at (at + layout.record_length))
+  pub run_neat : {end : ℕ} {a b c : Bool} → ((n : ℕ) → get_or xs n 0 < 2 ^ 64) → stored ≤ layout.store → end ≡ layout.record_signals + layout.signal_width * min stored layout.store → a ≡ all_zero (part xs (at + end) (at + layout.record_visits)) → b ≡ (slots (2 ^ 64) 1 0 layout.nodes).tidy streaks_held → c ≡ (slots (2 ^ 64) 2 3 layout.nodes).tidy results_held → ((a && b) && c) ≡ run.tidy (part xs at (at + layout.record_length))
   run_neat {end} {a} {b} {c} small low ends f g h =
       let n = head_count in
       let used = layout.signal_width * get_or head layout.record_stored 0 in
       let i : at + layout.record_signals + layout.signal_width * layout.store ≡ at + layout.record_visits = omega arith in
       let j : at + layout.record_signals + used ≡ at + end = omega arith in
-      let k : at + layout.record_streaks + layout.streak_width * layout.nodes ≡ at + layout.record_results = omega arith in
-      let l : at + layout.record_results + layout.result_width * layout.nodes ≡ at + layout.record_length = omega arith in
       let t : (stored_signals.shape head).tidy signals ≡ all_zero (part xs (at + end) (at + layout.record_visits)) =
       rw (i, j) at (column_neat (2 ^ 64) (layout.signal_width * layout.store) used xs (at + layout.record_signals) (omega arith) (omega arith) small) in
-      let g₁ : b ≡ (slots (2 ^ 64) 1 0 layout.nodes).tidy streaks = rw k at g in
-      let h₁ : c ≡ (slots (2 ^ 64) 2 3 layout.nodes).tidy results = rw l at h in
+      let g₁ : b ≡ (slots (2 ^ 64) 1 0 layout.nodes).tidy streaks = rw streaks_in at g in
+      let h₁ : c ≡ (slots (2 ^ 64) 2 3 layout.nodes).tidy results = rw results_in at h in
       sym (open_tests small ∙ rw (t, ← f, ← g₁, ← h₁) (three a b c))
 
   -- ITS BYTES.
@@ -220,10 +246,10 @@ module _ (xs : List ℕ) (at : ℕ) (room : at + layout.record_length ≤ length
   visits_bytes = bytes_of visits
 
   abbrev streaks_bytes : List ℕ
-  streaks_bytes = bytes_of ((slots (2 ^ 64) 1 0 layout.nodes).fields (part xs (at + layout.record_streaks) (at + layout.record_streaks + layout.streak_width * layout.nodes)))
+  streaks_bytes = bytes_of ((slots (2 ^ 64) 1 0 layout.nodes).fields streaks_held)
 
   abbrev results_bytes : List ℕ
-  results_bytes = bytes_of ((slots (2 ^ 64) 2 3 layout.nodes).fields (part xs (at + layout.record_results) (at + layout.record_results + layout.result_width * layout.nodes)))
+  results_bytes = bytes_of ((slots (2 ^ 64) 2 3 layout.nodes).fields results_held)
 
   abbrev streaks_left : List ℕ
   streaks_left = streaks_bytes ++ (results_bytes ++ [])
@@ -241,12 +267,10 @@ module _ (xs : List ℕ) (at : ℕ) (room : at + layout.record_length ≤ length
       let e = stages_written xs all_results [] (head ++ signals ++ visits ++ streaks) (at + layout.record_results) (at + layout.record_length) results_exact (omega arith) in
       let z = no_stage_written xs (head ++ signals ++ visits ++ streaks ++ results) (at + layout.record_length) in
       let w : bytes_of (run.fields (part xs at (at + layout.record_length))) ≡ bytes_of (run.fields (part xs at (at + run.width))) = rw run_width in
-      let k : at + layout.record_streaks + layout.streak_width * layout.nodes ≡ at + layout.record_results = omega arith in
-      let l : at + layout.record_results + layout.result_width * layout.nodes ≡ at + layout.record_length = omega arith in
       w ∙ a ∙ ap (λ (r : List ℕ). bytes_of head ++ r)
       (b ∙ ap (λ (r : List ℕ). bytes_of ((stored_signals.shape head).fields signals) ++ r)
       (c ∙ ap (λ (r : List ℕ). visits_bytes ++ r)
-      (rw (k, l) (d ∙ ap (λ (r : List ℕ). bytes_of ((slots (2 ^ 64) 1 0 layout.nodes).fields streaks) ++ r)
+      (rw (streaks_in, results_in) (d ∙ ap (λ (r : List ℕ). bytes_of ((slots (2 ^ 64) 1 0 layout.nodes).fields streaks) ++ r)
       (e ∙ ap (λ (r : List ℕ). bytes_of ((slots (2 ^ 64) 2 3 layout.nodes).fields results) ++ r) z)))))
 
   -- the signals that are stored
@@ -290,3 +314,35 @@ module _ (xs : List ℕ) (at : ℕ) (room : at + layout.record_length ≤ length
 
   pub run_few : length (bytes_of (run.fields (part xs at (at + layout.record_length)))) ≤ 10 * layout.record_length
   run_few = rw run_width at (exact_few run run_exact (part xs at (at + layout.record_length)) (part_long xs at layout.record_length room ∙ sym run_width))
+
+-- A RECORD'S NUMBERS, all of a list.
+module _ (xs : List ℕ) (long : length xs ≡ layout.record_length) where
+  pub room : 0 + layout.record_length ≤ length xs
+  room = omega arith
+
+  all_of : part xs 0 layout.record_length ≡ xs
+  all_of = part_all xs layout.record_length long
+
+  abbrev count_of : ℕ
+  count_of = get_or xs layout.record_stored 0
+
+  pub crowded : ((n : ℕ) → get_or xs n 0 < 2 ^ 64) → layout.store < count_of → false ≡ run.tidy xs
+  crowded small over = rw all_of at (run_crowded xs 0 room small over)
+
+  module _ {end : ℕ} (ends : end ≡ layout.record_signals + layout.signal_width * min count_of layout.store) where
+    pub neat_parts : {a b c : Bool} → ((n : ℕ) → get_or xs n 0 < 2 ^ 64) → count_of ≤ layout.store → a ≡ all_zero (part xs end layout.record_visits) → b ≡ (slots (2 ^ 64) 1 0 layout.nodes).tidy (streaks_held xs 0 room) → c ≡ (slots (2 ^ 64) 2 3 layout.nodes).tidy (results_held xs 0 room) → ((a && b) && c) ≡ run.tidy xs
+    neat_parts {a} {b} {c} small low f g h =
+        let z : 0 + end ≡ end = omega arith in
+        rw all_of at (run_neat xs 0 room {end = end} {a = a} {b = b} {c = c} small low ends (rw z f) g h)
+
+    pub first_bytes : BytesFirst (bytes_of (run.fields xs)) (bytes_of (take end xs)) (visits_left xs 0 room)
+    unfolding part
+    first_bytes =
+        let z : 0 + end - 0 ≡ end = omega arith in
+        rw (all_of, z) at (run_first xs 0 room ends)
+
+    pub sizes : length (bytes_of (take end xs)) + length (visits_bytes xs 0 room) + length (streaks_bytes xs 0 room) + length (results_bytes xs 0 room) ≡ length (bytes_of (run.fields xs))
+    sizes = rw (first_bytes.is, length-append, length-append, length-append, length-append) (omega arith)
+
+  pub few : length (bytes_of (run.fields xs)) ≤ 10 * layout.record_length
+  few = rw all_of at (run_few xs 0 room)

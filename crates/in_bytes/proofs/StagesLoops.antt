@@ -1,5 +1,5 @@
 -- Stages one behind the other in a lent list: read, tested and written.
-use Rattle.std.specs.Prelude.{◌≡◌, true, ℕ, ◌+◌, ◌≤◌, ◌<◌, get_or, drop}
+use Rattle.std.specs.Prelude.{◌≡◌, Option, Some, None, true, ℕ, ◌+◌, ◌≤◌, ◌<◌, get_or, drop}
 use Rattle.std.proofs.Math.Path.{refl, ap}
 use Rattle.std.proofs.Common.{sym, ◌∙◌}
 use mathlib.Core.List.{List, [], ◌∷◌, ◌++◌}
@@ -8,7 +8,6 @@ use Rattle.std.proofs.Math.ListN.{length, length-append, get_or-append}
 use Rattle.laws.specs.All.{All}
 use Rattle.laws.specs.Bool.{◌and◌}
 use Rattle.laws.specs.Splice.{splice, splice_none, splice_more}
-use Rattle.codec.specs.declared.numbers.Place.{Place}
 use Rattle.codec.specs.Read.{Read, got, bad}
 use Rattle.codec.specs.Numbers.{bytes_of, part}
 use Rattle.codec.specs.Stages.{Stage, widths, staged}
@@ -16,6 +15,7 @@ use Rattle.codec.specs.Stored.{place_of, Stored, ZeroFrom}
 use Rattle.codec.specs.Exact.{Bytes}
 use Rattle.codec.proofs.StoredLaws.{at_got, at_bad, bad_place, bad_stored}
 use Rattle.codec.proofs.ColumnsLaws.{StageExact, staged_width}
+use Rattle.codec.proofs.PartLaws.{length_part, part_zero, put_part, part_stored}
 use Rattle.codec.proofs.ShapesLoops.{ReadingShapes, reading_start, reading_long, reading_room, reading_bad, reading_more, reading_place, reading_stored, neat, written, neat_next, neat_none, written_next, written_none}
 
 -- READING into a list that is zero: the stages that are left, by the numbers of those before them.
@@ -49,14 +49,27 @@ module _ {stage : Stage} {stages : List Stage} {bytes : List ℕ} {whole : Read 
       let r = reading_room inv.reading (stage.shape inv.seen) (λ ns. staged stages (inv.seen ++ ns)) (widths stages) refl in
       omega arith
 
+  -- its part of the list is zero, and what is read into that stands in the list
+  pub stage_ready : (stage.room ≤ length (part list i (i + stage.room))) × ZeroFrom 0 (part list i (i + stage.room))
+  stage_ready =
+      let r = stage_room in
+      let n = length_part list i (i + stage.room) r in
+      (omega arith, part_zero list i (i + stage.room) (omega arith) r inv.reading.blank)
+
+  pub stage_stored : {ys : List ℕ} → Bytes bytes → Stored ((stage.shape inv.seen).read bytes at) (part list i (i + stage.room)) 0 ys → Stored ((stage.shape inv.seen).read bytes at) list i (put_part list i (i + stage.room) ys)
+  stage_stored good s =
+      let shape = exact.0.exact inv.seen in
+      let w = exact.0.wide inv.seen in
+      part_stored list i (i + stage.room) (omega arith) stage_room (λ ns p e. let n = shape.long ns (shape.only bytes ns at p good e).tidy in omega arith) s
+
   pub stage_bad : (stage.shape inv.seen).read bytes at ≡ bad → whole ≡ bad
   unfolding staged
   stage_bad e = reading_bad inv.reading (stage.shape inv.seen) (λ ns. staged stages (inv.seen ++ ns)) (widths stages) refl e
 
-  pub stage_refused : {z : Place} → z ≡ place_of ((stage.shape inv.seen).read bytes at) → z ≡ Place.Bad → whole ≡ bad
+  pub stage_refused : {z : Option ℕ} → z ≡ place_of ((stage.shape inv.seen).read bytes at) → z ≡ None → whole ≡ bad
   stage_refused answer e = stage_bad (at_bad answer e)
 
-  pub stage_more : {z : Place} {p : ℕ} {after : List ℕ} → Bytes bytes → z ≡ place_of ((stage.shape inv.seen).read bytes at) → z ≡ Place.At p → Stored ((stage.shape inv.seen).read bytes at) list i after → ReadingStages stages bytes whole before p (i + stage.room) after
+  pub stage_more : {z : Option ℕ} {p : ℕ} {after : List ℕ} → Bytes bytes → z ≡ place_of ((stage.shape inv.seen).read bytes at) → z ≡ Some p → Stored ((stage.shape inv.seen).read bytes at) list i after → ReadingStages stages bytes whole before p (i + stage.room) after
   unfolding staged
   stage_more {z} {p} {after} good answer e s =
       let seen = inv.seen in
@@ -77,7 +90,7 @@ module _ {stage : Stage} {stages : List Stage} {bytes : List ℕ} {whole : Read 
       }
 
 module _ {bytes : List ℕ} {whole : Read (List ℕ)} {before : List ℕ} {at i : ℕ} {list : List ℕ} (inv : ReadingStages [] bytes whole before at i list) where
-  stages_place : Place.At at ≡ place_of whole
+  stages_place : Some at ≡ place_of whole
   unfolding staged
   stages_place = reading_place inv.reading refl
 
@@ -86,14 +99,14 @@ module _ {bytes : List ℕ} {whole : Read (List ℕ)} {before : List ℕ} {at i 
   stages_stored = reading_stored inv.reading refl
 
 -- The last stage, whatever came of it.
-module _ {stage : Stage} {bytes : List ℕ} {whole : Read (List ℕ)} {before : List ℕ} {at i : ℕ} {list : List ℕ} (exact : All StageExact (stage ∷ [])) (inv : ReadingStages (stage ∷ []) bytes whole before at i list) {z : Place} {after : List ℕ} (good : Bytes bytes) (answer : z ≡ place_of ((stage.shape inv.seen).read bytes at)) (s : Stored ((stage.shape inv.seen).read bytes at) list i after) where
+module _ {stage : Stage} {bytes : List ℕ} {whole : Read (List ℕ)} {before : List ℕ} {at i : ℕ} {list : List ℕ} (exact : All StageExact (stage ∷ [])) (inv : ReadingStages (stage ∷ []) bytes whole before at i list) {z : Option ℕ} {after : List ℕ} (good : Bytes bytes) (answer : z ≡ place_of ((stage.shape inv.seen).read bytes at)) (s : Stored ((stage.shape inv.seen).read bytes at) list i after) where
   by_read : (r : Read (List ℕ)) → (stage.shape inv.seen).read bytes at ≡ r → (z ≡ place_of whole) × Stored whole before 0 after
   unfolding place_of
   by_read bad e =
       let b = stage_bad exact inv e in
       (answer ∙ ap place_of e ∙ bad_place b, bad_stored b (s.long ∙ stages_long inv))
   by_read (got ns p) e =
-      let a : z ≡ Place.At p = answer ∙ ap place_of e in
+      let a : z ≡ Some p = answer ∙ ap place_of e in
       let m = stage_more exact inv good answer a s in
       (a ∙ stages_place m, stages_stored m)
 

@@ -1,13 +1,12 @@
 -- What the code tests: where a read ends, and whether a node of a run is used.
-use Rattle.std.specs.Prelude.{Bool, false, ◌&&◌, List, ℕ, ◌+◌, eqb}
+use Rattle.std.specs.Prelude.{Bool, Option, Some, None, false, ◌&&◌, List, ℕ, ◌+◌, eqb}
 use Rattle.host.specs.Layout.{visits_place, streak_place, result_place}
 use Rattle.host.specs.Read.{at}
-use Rattle.codec.specs.declared.numbers.Place.{Place}
 
 -- What was read ends where the bytes end.
-unfoldable pub ends_at : (size : ℕ) → Place → Bool
-ends_at size (Place.At next) = eqb next size
-ends_at size Place.Bad = false
+unfoldable pub ends_at : (size : ℕ) → Option ℕ → Bool
+ends_at size (Some next) = eqb next size
+ends_at size None = false
 
 -- A node has no visits, and the leads of its streak and its result are 0.
 unfoldable pub unused : List ℕ → ℕ → Bool

@@ -9,16 +9,17 @@ ghost use Rattle.in_bytes.specs.CallStored.{RestStored, CallStored};
 
 use crate::run::read_run;
 use crate::sheet::read_sheet;
-use codec::numbers::{Place, read_longs};
+use codec::numbers::read_numbers;
 use host::layout;
 use workflow::layout::NUMBERS;
 
+// Kept: the mark as a bool, tested in one place and made where it is passed: the definition says it so too (d).
 fn read_given(
     bytes: &[u8],
     start: usize,
     has_record: bool,
     run: &mut [u64; layout::RECORD],
-) -> Place
+) -> Option<usize>
     requires { run.old ≡ replicate record_length 0 }
     ensures value { result ≡ place_of ((given_shape (marked has_record)).read bytes.now start) }
     ensures stored { Stored ((given_shape (marked has_record)).read bytes.now start) run.old 0 run.new }
@@ -26,7 +27,7 @@ fn read_given(
     if has_record {
         return read_run(bytes, start, run);
     }
-    Place::At(start)
+    Some(start)
 }
 
 // What stands behind the sheet.
@@ -35,49 +36,31 @@ pub fn read_rest(
     start: usize,
     call: &mut [u64; layout::CALL],
     run: &mut [u64; layout::RECORD],
-) -> Place
+) -> Option<usize>
     requires { ZeroFrom call_has_record call.old × (run.old ≡ replicate record_length 0) }
     ensures value { result ≡ place_of (rest.read bytes.now start) }
     ensures rest_stored { RestStored (rest.read bytes.now start) call.old call.new run.new }
 {
-    let mark = read_longs(
+    let first = read_numbers(
         bytes,
         start,
-        call,
-        layout::CALL_HAS_RECORD,
-        layout::CALL_SEQUENCE,
-    );
-    let Place::At(first) = mark else {
-        return Place::Bad;
-    };
+        &mut call[layout::CALL_HAS_RECORD..layout::CALL_SEQUENCE],
+    )?;
     if 1 < call[layout::CALL_HAS_RECORD] {
-        return Place::Bad;
+        return None;
     }
-    let given = read_given(bytes, first, call[layout::CALL_HAS_RECORD] == 1, run);
-    let Place::At(second) = given else {
-        return Place::Bad;
-    };
-    let event = read_longs(
+    let second = read_given(bytes, first, call[layout::CALL_HAS_RECORD] == 1, run)?;
+    let third = read_numbers(
         bytes,
         second,
-        call,
-        layout::CALL_SEQUENCE,
-        layout::CALL_MAPPINGS,
-    );
-    let Place::At(third) = event else {
-        return Place::Bad;
-    };
+        &mut call[layout::CALL_SEQUENCE..layout::CALL_MAPPINGS],
+    )?;
     let answered = call[layout::CALL_ANSWERED];
     if 2 < answered {
-        return Place::Bad;
+        return None;
     }
-    read_longs(
-        bytes,
-        third,
-        call,
-        layout::CALL_MAPPINGS,
-        layout::CALL_MAPPINGS + layout::MAPPING_WIDTH * (answered as usize),
-    )
+    let end = layout::CALL_MAPPINGS + layout::MAPPING_WIDTH * (answered as usize);
+    read_numbers(bytes, third, &mut call[layout::CALL_MAPPINGS..end])
 }
 
 // From bytes into numbers that are all zero.
@@ -86,18 +69,12 @@ pub fn read_call(
     sheet: &mut [u32; NUMBERS],
     call: &mut [u64; layout::CALL],
     run: &mut [u64; layout::RECORD],
-) -> Place
+) -> Option<usize>
     requires { (sheet.old ≡ replicate sheet_length 0) × (call.old ≡ replicate call_length 0) × (run.old ≡ replicate record_length 0) }
     ensures value { result ≡ place_of (whole_call.read bytes.now 0) }
     ensures call_stored { CallStored (whole_call.read bytes.now 0) sheet.new call.new run.new }
 {
-    let limits = read_longs(bytes, 0, call, 0, layout::CALL_HAS_RECORD);
-    let Place::At(first) = limits else {
-        return Place::Bad;
-    };
-    let graph = read_sheet(bytes, first, sheet);
-    let Place::At(second) = graph else {
-        return Place::Bad;
-    };
+    let first = read_numbers(bytes, 0, &mut call[..layout::CALL_HAS_RECORD])?;
+    let second = read_sheet(bytes, first, sheet)?;
     read_rest(bytes, second, call, run)
 }

@@ -1,6 +1,5 @@
 // An event as bytes: all its numbers.
-ghost use Rattle.std.specs.Prelude.{◌≡◌, length};
-ghost use Rattle.host.specs.Layout.{event_length};
+ghost use Rattle.std.specs.Prelude.{◌≡◌};
 ghost use Rattle.in_bytes.specs.Event.{event_fits};
 
 use host::layout;
@@ -8,6 +7,7 @@ use host::layout;
 // Where the event's numbers begin in a call.
 const FIRST: usize = layout::CALL_SEQUENCE;
 
+// Kept: crate host has these four bounds too, and shows none of them.
 const NUMBER: u64 = 0x1_0000_0000;
 
 const NAME: u64 = 256;
@@ -17,8 +17,7 @@ const CODE: u64 = 65536;
 const MARK: u64 = 2;
 
 // Its fields can hold its numbers: those of a call's event.
-pub fn event_fits(e: &[u64]) -> bool
-    requires { length e.now ≡ event_length }
+pub fn event_fits(e: &[u64; layout::EVENT]) -> bool
     ensures { result ≡ event_fits e.now }
 {
     (e[layout::CALL_EVENT_ID - FIRST] < NUMBER)

@@ -20,7 +20,7 @@ use crate::call::{read_call, read_rest};
 use crate::event::event_fits;
 use crate::run::{read_run, run_size, run_tidy, tidy_fits, write_run};
 use crate::sheet::{read_sheet, sheet_size, sheet_tidy, write_sheet};
-use codec::numbers::{Place, longs_size, read_longs, write_longs};
+use codec::numbers::{numbers_size, read_numbers, write_numbers};
 use host::read::run_fits;
 use host::{kuxhoveza_transition, layout};
 use workflow::layout::NUMBERS;
@@ -54,18 +54,17 @@ fn done(size: usize) -> u64
 fn receipt(number: u32) -> u64
     ensures { result ≡ packed number 0 }
 {
-    packed(number as u64, 0)
+    packed(u64::from(number), 0)
 }
 
 // What was read ends where the bytes end.
-fn ends(place: Place, bytes: &[u8]) -> bool
+fn ends(place: Option<usize>, bytes: &[u8]) -> bool
     ensures { result ≡ ends_at (length bytes.now) place }
 {
-    match place {
-        Place::At(next) => next == bytes.len(),
-        Place::Bad => false,
-    }
+    place == Some(bytes.len())
 }
+
+// Kept: the exported functions take slices and return a number, and the answers' arrays are lent: the C interface, and fixed memory (a).
 
 // A SHEET.
 
@@ -73,9 +72,9 @@ pub fn kuxhoveza_write_sheet(sheet: &[u32], out: &mut [u8]) -> u64
     ensures value { result ≡ returned (write_sheet sheet.now (length out.old)) }
     ensures out_after { out.new ≡ left (write_sheet sheet.now (length out.old)) out.old }
 {
-    if sheet.len() != NUMBERS {
+    let Ok(sheet) = <&[u32; NUMBERS]>::try_from(sheet) else {
         return receipt(layout::BAD_SHEET_LENGTH);
-    }
+    };
     if !sheet_tidy(sheet) {
         return refused(Refusal::Form);
     }
@@ -85,17 +84,6 @@ pub fn kuxhoveza_write_sheet(sheet: &[u32], out: &mut [u8]) -> u64
     }
     write_sheet(out, sheet);
     done(size)
-}
-
-fn copy_numbers(out: &mut [u32], xs: &[u32])
-    requires { length xs.now ≤ length out.old }
-    ensures { out.new ≡ splice out.old 0 xs.now }
-{
-    let mut i: usize = 0;
-    while i < xs.len() {
-        out[i] = xs[i];
-        i += 1;
-    }
 }
 
 pub fn kuxhoveza_read_sheet(bytes: &[u8], sheet: &mut [u32]) -> u64
@@ -110,7 +98,7 @@ pub fn kuxhoveza_read_sheet(bytes: &[u8], sheet: &mut [u32]) -> u64
     if !ends(place, bytes) {
         return refused(Refusal::BadBytes);
     }
-    copy_numbers(sheet, &numbers);
+    sheet.copy_from_slice(&numbers);
     done(0)
 }
 
@@ -120,32 +108,21 @@ pub fn kuxhoveza_write_run(run: &[u64], out: &mut [u8]) -> u64
     ensures value { result ≡ returned (write_run run.now (length out.old)) }
     ensures out_after { out.new ≡ left (write_run run.now (length out.old)) out.old }
 {
-    let Some(numbers) = run.as_array() else {
+    let Ok(run) = <&[u64; layout::RECORD]>::try_from(run) else {
         return receipt(layout::BAD_RECORD_LENGTH);
     };
-    if !run_fits(numbers) {
+    if !run_fits(run) {
         return receipt(layout::BAD_RECORD);
     }
-    if !run_tidy(run, 0) {
+    if !run_tidy(run) {
         return refused(Refusal::Inconsistent);
     }
-    let size = run_size(run, 0);
+    let size = run_size(run);
     if out.len() < size {
         return refused(Refusal::ShortBuffer);
     }
-    write_run(out, 0, run, 0);
+    write_run(out, 0, run);
     done(size)
-}
-
-fn copy_longs(out: &mut [u64], xs: &[u64])
-    requires { length xs.now ≤ length out.old }
-    ensures { out.new ≡ splice out.old 0 xs.now }
-{
-    let mut i: usize = 0;
-    while i < xs.len() {
-        out[i] = xs[i];
-        i += 1;
-    }
 }
 
 pub fn kuxhoveza_read_run(bytes: &[u8], run: &mut [u64]) -> u64
@@ -163,7 +140,7 @@ pub fn kuxhoveza_read_run(bytes: &[u8], run: &mut [u64]) -> u64
     if !tidy_fits(&numbers) {
         return refused(Refusal::BadBytes);
     }
-    copy_longs(run, &numbers);
+    run.copy_from_slice(&numbers);
     done(0)
 }
 
@@ -173,17 +150,17 @@ pub fn kuxhoveza_write_event(event: &[u64], out: &mut [u8]) -> u64
     ensures value { result ≡ returned (write_event event.now (length out.old)) }
     ensures out_after { out.new ≡ left (write_event event.now (length out.old)) out.old }
 {
-    if event.len() != layout::EVENT {
+    let Ok(event) = <&[u64; layout::EVENT]>::try_from(event) else {
         return receipt(layout::BAD_CALL_LENGTH);
-    }
+    };
     if !event_fits(event) {
         return receipt(layout::BAD_CALL);
     }
-    let size = longs_size(event, 0, layout::EVENT);
+    let size = numbers_size(event);
     if out.len() < size {
         return refused(Refusal::ShortBuffer);
     }
-    write_longs(out, 0, event, 0, layout::EVENT);
+    write_numbers(out, 0, event);
     done(size)
 }
 
@@ -195,14 +172,14 @@ pub fn kuxhoveza_read_event(bytes: &[u8], event: &mut [u64]) -> u64
         return receipt(layout::BAD_CALL_LENGTH);
     }
     let mut numbers = [0u64; layout::EVENT];
-    let place = read_longs(bytes, 0, &mut numbers, 0, layout::EVENT);
+    let place = read_numbers(bytes, 0, &mut numbers);
     if !ends(place, bytes) {
         return refused(Refusal::BadBytes);
     }
     if !event_fits(&numbers) {
         return refused(Refusal::BadBytes);
     }
-    copy_longs(event, &numbers);
+    event.copy_from_slice(&numbers);
     done(0)
 }
 
@@ -218,11 +195,10 @@ pub fn decide(bytes: &[u8], answer: &mut [u64; layout::ANSWER]) -> bool
     let mut call = [0u64; layout::CALL];
     let mut run = [0u64; layout::RECORD];
     let place = read_call(bytes, &mut sheet, &mut call, &mut run);
-    if ends(place, bytes) {
-        let receipt = kuxhoveza_transition(&sheet, NUMBERS, &call, &run, answer);
-        return receipt == layout::WRITTEN;
+    if !ends(place, bytes) {
+        return false;
     }
-    false
+    kuxhoveza_transition(&sheet, NUMBERS, &call, &run, answer) == layout::WRITTEN
 }
 
 // What is told of an answer's numbers.
@@ -265,16 +241,15 @@ fn decide_on(sheet: &[u32; NUMBERS], bytes: &[u8], answer: &mut [u64; layout::AN
 {
     let mut call = [0u64; layout::CALL];
     let mut run = [0u64; layout::RECORD];
-    let limits = read_longs(bytes, 0, &mut call, 0, layout::CALL_HAS_RECORD);
-    let Place::At(next) = limits else {
+    let limits = read_numbers(bytes, 0, &mut call[..layout::CALL_HAS_RECORD]);
+    let Some(next) = limits else {
         return false;
     };
     let place = read_rest(bytes, next, &mut call, &mut run);
-    if ends(place, bytes) {
-        let receipt = kuxhoveza_transition(sheet, NUMBERS, &call, &run, answer);
-        return receipt == layout::WRITTEN;
+    if !ends(place, bytes) {
+        return false;
     }
-    false
+    kuxhoveza_transition(sheet, NUMBERS, &call, &run, answer) == layout::WRITTEN
 }
 
 pub fn kuxhoveza_call_on(

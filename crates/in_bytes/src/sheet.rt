@@ -4,10 +4,10 @@ ghost use Rattle.laws.specs.Splice.{splice};
 ghost use Rattle.workflow.specs.Layout.{numbers as sheet_length};
 ghost use Rattle.codec.specs.Numbers.{bytes_of};
 ghost use Rattle.codec.specs.Stored.{place_of, Stored};
-ghost use Rattle.in_bytes.specs.Sheet.{used, sheet};
+ghost use Rattle.in_bytes.specs.Sheet.{plan, sheet};
 
-use codec::columns::{columns_size, columns_tidy, read_columns, write_columns};
-use codec::numbers::{Place, numbers_size, read_numbers, write_numbers};
+use codec::columns::{Column, columns_size, columns_tidy, read_columns, write_columns};
+use codec::numbers::{numbers_size, read_numbers, write_numbers};
 use workflow::layout;
 
 // How many single numbers there are; then the columns begin.
@@ -15,86 +15,67 @@ const HEAD: usize = layout::NODE_KIND;
 
 const COLUMNS: usize = 17;
 
-const ROOMS: [usize; COLUMNS] = [
-    layout::NODES,
-    layout::NODES,
-    layout::NODES,
-    layout::NODES,
-    layout::NODES,
-    layout::NODES,
-    layout::NODES,
-    layout::ROUTES,
-    layout::ROUTES,
-    layout::ROUTES,
-    layout::LIMITS,
-    layout::LIMITS,
-    layout::LIMITS,
-    layout::ACTIONS,
-    layout::ACTIONS,
-    layout::DECLARED,
-    layout::DECLARED,
-];
-
-fn count(x: u32) -> usize
-    ensures { result ≡ x }
+// The columns, of which the counts say how many slots are used.
+fn plan(w: &[u32; layout::NUMBERS]) -> [Column; COLUMNS]
+    ensures { result ≡ plan w.now }
 {
-    x as usize
-}
-
-// How many slots of each column are used.
-fn used(w: &[u32]) -> [usize; COLUMNS]
-    requires { length w.now ≡ sheet_length }
-    ensures { result ≡ used w.now }
-{
-    let nodes = count(w[layout::NODE_COUNT]);
-    let routes = count(w[layout::ROUTE_COUNT]);
-    let limits = count(w[layout::LIMIT_COUNT]);
-    let actions = count(w[layout::ACTION_COUNT]);
-    let declared = count(w[layout::DECLARED_COUNT]);
+    let node = Column {
+        room: layout::NODES,
+        used: w[layout::NODE_COUNT] as usize,
+    };
+    let route = Column {
+        room: layout::ROUTES,
+        used: w[layout::ROUTE_COUNT] as usize,
+    };
+    let limit = Column {
+        room: layout::LIMITS,
+        used: w[layout::LIMIT_COUNT] as usize,
+    };
+    let action = Column {
+        room: layout::ACTIONS,
+        used: w[layout::ACTION_COUNT] as usize,
+    };
+    let declared = Column {
+        room: layout::DECLARED,
+        used: w[layout::DECLARED_COUNT] as usize,
+    };
     [
-        nodes, nodes, nodes, nodes, nodes, nodes, nodes, routes, routes, routes, limits, limits,
-        limits, actions, actions, declared, declared,
+        node, node, node, node, node, node, node, route, route, route, limit, limit, limit, action,
+        action, declared, declared,
     ]
 }
 
 // From bytes into numbers that are all zero.
-pub fn read_sheet(bytes: &[u8], start: usize, w: &mut [u32; layout::NUMBERS]) -> Place
+pub fn read_sheet(bytes: &[u8], start: usize, w: &mut [u32; layout::NUMBERS]) -> Option<usize>
     requires { w.old ≡ replicate sheet_length 0 }
     ensures value { result ≡ place_of (sheet.read bytes.now start) }
     ensures stored { Stored (sheet.read bytes.now start) w.old 0 w.new }
 {
-    let head = read_numbers(bytes, start, w, 0, HEAD);
-    let Place::At(next) = head else {
-        return Place::Bad;
-    };
-    let used = used(w);
-    read_columns(bytes, next, w, HEAD, &ROOMS, &used)
+    let next = read_numbers(bytes, start, &mut w[..HEAD])?;
+    let plan = plan(w);
+    read_columns(bytes, next, &mut w[HEAD..], &plan)
 }
 
 // Every count is within its capacity, and every slot that isn't used is zero.
-pub fn sheet_tidy(w: &[u32]) -> bool
-    requires { length w.now ≡ sheet_length }
+pub fn sheet_tidy(w: &[u32; layout::NUMBERS]) -> bool
     ensures { result ≡ sheet.tidy w.now }
 {
-    let used = used(w);
-    columns_tidy(w, HEAD, &ROOMS, &used)
+    columns_tidy(&w[HEAD..], &plan(w))
 }
 
 // How many bytes a tidy sheet takes.
-pub fn sheet_size(w: &[u32]) -> usize
-    requires { (length w.now ≡ sheet_length) × (sheet.tidy w.now ≡ true) }
+pub fn sheet_size(w: &[u32; layout::NUMBERS]) -> usize
+    requires { sheet.tidy w.now ≡ true }
     ensures { result ≡ length (bytes_of (sheet.fields w.now)) }
 {
-    let used = used(w);
-    numbers_size(w, 0, HEAD) + columns_size(w, HEAD, &ROOMS, &used)
+    numbers_size(&w[..HEAD]) + columns_size(&w[HEAD..], &plan(w))
 }
 
 // Its bytes are written to the buffer's beginning.
-pub fn write_sheet(out: &mut [u8], w: &[u32])
-    requires { (length w.now ≡ sheet_length) × (sheet.tidy w.now ≡ true) × (length (bytes_of (sheet.fields w.now)) ≤ length out.old) }
+pub fn write_sheet(out: &mut [u8], w: &[u32; layout::NUMBERS])
+    requires { (sheet.tidy w.now ≡ true) × (length (bytes_of (sheet.fields w.now)) ≤ length out.old) }
     ensures { out.new ≡ splice out.old 0 (bytes_of (sheet.fields w.now)) }
 {
-    let used = used(w);
-    let next = write_numbers(out, 0, w, 0, HEAD);
-    write_columns(out, next, w, HEAD, &ROOMS, &used);
+    let next = write_numbers(out, 0, &w[..HEAD]);
+    write_columns(out, next, &w[HEAD..], &plan(w));
 }

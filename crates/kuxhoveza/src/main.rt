@@ -59,10 +59,11 @@ fn nodes<W: Write, const N: usize>(
 
 // The run's bytes, two digits each.
 fn hexadecimal<W: Write>(to: &mut W, xs: &[u64; ANSWER]) -> io::Result<()> {
+    let run = <&[u64; layout::RECORD]>::try_from(&xs[RUN..]).unwrap();
     let mut bytes = [0u8; RUN_BYTES];
-    let size = in_bytes::run::run_size(xs, RUN);
+    let size = in_bytes::run::run_size(run);
     if size <= RUN_BYTES {
-        in_bytes::run::write_run(&mut bytes, 0, xs, RUN);
+        in_bytes::run::write_run(&mut bytes, 0, run);
         for byte in &bytes[..size] {
             write!(to, "{byte:02x}")?;
         }

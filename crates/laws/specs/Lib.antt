@@ -11,3 +11,4 @@ pub mod Arrays
 pub mod Tests
 pub mod Splice
 pub mod Zeros
+pub mod Chains

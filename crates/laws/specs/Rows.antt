@@ -28,12 +28,12 @@ module _ {A : Type 0} (f : ℕ → A) where
       let e : k - i ≡ 0 = omega arith in
       rw e
 
-  length_rows : (i k : ℕ) → length (rows f i k) ≡ k
+  pub length_rows : (i k : ℕ) → length (rows f i k) ≡ k
   unfolding rows
   length_rows i zero = refl
   length_rows i (suc k) = ap suc (length_rows (i + 1) k)
 
-  get_d_rows : (i k n : ℕ) (d : A) → n < k → get_or (rows f i k) n d ≡ f (i + n)
+  pub get_d_rows : (i k n : ℕ) (d : A) → n < k → get_or (rows f i k) n d ≡ f (i + n)
   unfolding rows
   get_d_rows i zero n d h = absurd (omega arith)
   get_d_rows i (suc k) zero d h = ap f (omega arith)

@@ -8,7 +8,7 @@ use Rattle.laws.specs.Bool.{◌and◌, and_true, and_left}
 use Rattle.laws.specs.Rows.{span, span_more, span_none}
 use Rattle.laws.specs.Every.{every}
 
-or_none : (a b : ℕ) → eqb (bit_or a b) 0 ≡ (eqb a 0 and eqb b 0)
+pub or_none : (a b : ℕ) → eqb (bit_or a b) 0 ≡ (eqb a 0 and eqb b 0)
 unfolding ◌and◌
 or_none a b = go (eqb (bit_or a b) 0) (eqb a 0) (eqb b 0) refl refl refl
   where

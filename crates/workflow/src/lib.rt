@@ -13,7 +13,7 @@ ghost use Rattle.workflow.specs.RowLaws.{Columns, find_row};
 
 use crate::layout::NUMBERS;
 
-#[derive(Clone, Copy)]
+#[derive(Clone, Copy, Debug, Default, PartialEq, Eq)]
 pub struct Node {
     pub kind: u32,
     pub action: u32,
@@ -24,27 +24,27 @@ pub struct Node {
     pub has_limits: u32,
 }
 
-#[derive(Clone, Copy)]
+#[derive(Clone, Copy, Debug, Default, PartialEq, Eq)]
 pub struct Route {
     pub node: u32,
     pub outcome: u32,
     pub target: u32,
 }
 
-#[derive(Clone, Copy)]
+#[derive(Clone, Copy, Debug, Default, PartialEq, Eq)]
 pub struct Limit {
     pub node: u32,
     pub outcome: u32,
     pub limit: u32,
 }
 
-#[derive(Clone, Copy)]
+#[derive(Clone, Copy, Debug, Default, PartialEq, Eq)]
 pub struct Action {
     pub effect: u32,
     pub max_attempts: u32,
 }
 
-#[derive(Clone, Copy)]
+#[derive(Clone, Copy, Debug, Default, PartialEq, Eq)]
 pub struct Declared {
     pub action: u32,
     pub outcome: u32,
@@ -54,8 +54,7 @@ pub struct Declared {
 pub fn capped(count: u32, room: usize) -> usize
     ensures { result ≡ min room count }
 {
-    let k = count as usize;
-    if k < room { k } else { room }
+    room.min(count as usize)
 }
 
 // The rows as they stand, counted or not.
@@ -64,7 +63,7 @@ pub fn node_at(w: &[u32; NUMBERS], i: usize) -> Node
     ensures { result ≡ node_at w.now i }
 {
     if i < layout::NODES {
-        return Node {
+        Node {
             kind: w[layout::NODE_KIND + i],
             action: w[layout::NODE_ACTION + i],
             has_params: w[layout::NODE_HAS_PARAMS + i],
@@ -72,9 +71,10 @@ pub fn node_at(w: &[u32; NUMBERS], i: usize) -> Node
             code: w[layout::NODE_CODE + i],
             detail: w[layout::NODE_DETAIL + i],
             has_limits: w[layout::NODE_HAS_LIMITS + i],
-        };
+        }
+    } else {
+        no_node()
     }
-    no_node()
 }
 
 // Routes and limits are read in loops over all of them, so a row that there is no room for isn't tested here.
@@ -105,14 +105,12 @@ pub fn action_at(w: &[u32; NUMBERS], i: usize) -> Action
     ensures { result ≡ action_at w.now i }
 {
     if i < layout::ACTIONS {
-        return Action {
+        Action {
             effect: w[layout::ACTION_EFFECT + i],
             max_attempts: w[layout::ACTION_MAX_ATTEMPTS + i],
-        };
-    }
-    Action {
-        effect: 0,
-        max_attempts: 0,
+        }
+    } else {
+        Action::default()
     }
 }
 
@@ -120,29 +118,19 @@ pub fn declared_at(w: &[u32; NUMBERS], i: usize) -> Declared
     ensures { result ≡ declared_at w.now i }
 {
     if i < layout::DECLARED {
-        return Declared {
+        Declared {
             action: w[layout::DECLARED_ACTION + i],
             outcome: w[layout::DECLARED_OUTCOME + i],
-        };
-    }
-    Declared {
-        action: 0,
-        outcome: 0,
+        }
+    } else {
+        Declared::default()
     }
 }
 
 pub fn no_node() -> Node
     ensures { result ≡ no_node }
 {
-    Node {
-        kind: 0,
-        action: 0,
-        has_params: 0,
-        signal: 0,
-        code: 0,
-        detail: 0,
-        has_limits: 0,
-    }
+    Node::default()
 }
 
 // The lookups, over the rows that are counted.
@@ -152,9 +140,10 @@ pub fn node_of(w: &[u32; NUMBERS], id: u32) -> Node
 {
     let n = id as usize;
     if n < capped(w[layout::NODE_COUNT], layout::NODES) {
-        return node_at(w, n);
+        node_at(w, n)
+    } else {
+        no_node()
     }
-    no_node()
 }
 
 pub fn policy_of(w: &[u32; NUMBERS], action: u32) -> Action
@@ -162,11 +151,9 @@ pub fn policy_of(w: &[u32; NUMBERS], action: u32) -> Action
 {
     let n = action as usize;
     if n < capped(w[layout::ACTION_COUNT], layout::ACTIONS) {
-        return action_at(w, n);
-    }
-    Action {
-        effect: 0,
-        max_attempts: 0,
+        action_at(w, n)
+    } else {
+        Action::default()
     }
 }
 
@@ -180,10 +167,7 @@ pub fn is_0_2(w: &[u32; NUMBERS]) -> bool
 fn are(a: u32, b: u32, x: u32, y: u32) -> bool
     ensures { result ≡ are a b x y }
 {
-    if a == x {
-        return b == y;
-    }
-    false
+    a == x && b == y
 }
 
 // The value in the first row, of the first `count`, whose two keys are x and y.
@@ -199,14 +183,9 @@ fn find_row(
     requires { Columns major minor value count }
     ensures { result ≡ find_row w.now major minor value count x y }
 {
-    let mut i: usize = 0;
-    while i < count {
-        if are(w[major + i], w[minor + i], x, y) {
-            return Some(w[value + i]);
-        }
-        i += 1;
-    }
-    None
+    (0..count)
+        .find(|i| are(w[major + *i], w[minor + *i], x, y))
+        .map(|i| w[value + i])
 }
 
 pub fn find_route(w: &[u32; NUMBERS], node: u32, outcome: u32) -> Option<u32>

@@ -11,27 +11,27 @@ pub slice_bounds-kuxhoveza_transition-end : goal.slice_bounds-kuxhoveza_transiti
 slice_bounds-kuxhoveza_transition-end c =
     let bytes = c.args.bytes.now in
     let good : Bytes bytes = record { each = λ n. omega (arith, c.type_inv.bytes n) } in
-    let w = is_whole _ (call.read bytes 0) c.read_call-place.ensures.value (sym c.ends.ensures ∙ c.if-ends.true) in
+    let w = is_whole _ (call.read bytes 0) c.read_call-place.ensures.value (sym c.ends.ensures ∙ c.if-not-ends.false) in
     sym (call_lengths bytes w good c.read_call-place.ensures.call_stored).0
 
-pub slice_bounds-kuxhoveza_transition-end-then-ends : goal.slice_bounds-kuxhoveza_transition-end-then-ends
-slice_bounds-kuxhoveza_transition-end-then-ends c =
+pub slice_bounds-kuxhoveza_transition-end-2 : goal.slice_bounds-kuxhoveza_transition-end-2
+slice_bounds-kuxhoveza_transition-end-2 c =
     let bytes = c.args.bytes.now in
     let good : Bytes bytes = record { each = λ n. omega (arith, c.type_inv.bytes n) } in
-    let w = is_whole _ (call.read bytes 0) c.read_call-place.ensures.value (sym c.ends.ensures ∙ c.if-ends.true) in
+    let w = is_whole _ (call.read bytes 0) c.read_call-place.ensures.value (sym c.ends.ensures ∙ c.if-not-ends.false) in
     sym (call_lengths bytes w good c.read_call-place.ensures.call_stored).1
-
-pub returns-then-ends : goal.returns-then-ends
-returns-then-ends c =
-    let bytes = c.args.bytes.now in
-    let w = is_whole _ (call.read bytes 0) c.read_call-place.ensures.value (sym c.ends.ensures ∙ c.if-ends.true) in
-    let t = c.kuxhoveza_transition-receipt.ensures in
-    let s = says_numbers _ _ _ c.args.answer.now (search rules) t.value t.answer_after t.full (decide_parts bytes w c.read_call-place.ensures.call_stored) in
-    record { value = s.0; answer_after = s.1.0; of_64_bits = s.1.1 }
 
 pub returns : goal.returns
 returns c =
     let bytes = c.args.bytes.now in
-    let b = not_whole _ (call.read bytes 0) c.read_call-place.ensures.value (sym c.ends.ensures ∙ c.if-ends.false) in
+    let w = is_whole _ (call.read bytes 0) c.read_call-place.ensures.value (sym c.ends.ensures ∙ c.if-not-ends.false) in
+    let t = c.kuxhoveza_transition.ensures in
+    let s = says_numbers _ _ _ c.args.answer.now (search rules) t.value t.answer_after t.full (decide_parts bytes w c.read_call-place.ensures.call_stored) in
+    record { value = s.0; answer_after = s.1.0; of_64_bits = s.1.1 }
+
+pub returns-then-not-ends : goal.returns-then-not-ends
+returns-then-not-ends c =
+    let bytes = c.args.bytes.now in
+    let b = not_whole _ (call.read bytes 0) c.read_call-place.ensures.value (sym c.ends.ensures ∙ c.if-not-ends.true) in
     let s = says_unread c.args.answer.now (decide_bad bytes b) in
     record { value = s.0; answer_after = s.1.0; of_64_bits = s.1.1 }

@@ -1,10 +1,13 @@
+use mathlib.Core.Path.{◌≡◌, refl, ◌∙◌}
+use Rattle.std.specs.Prelude.{Option, Some, None, ℕ, eqb}
+use Rattle.std.specs.Option.{option_eq}
 use Rattle.in_bytes.specs.Tests.{ends_at}
 use Rattle.in_bytes.proofs.ends.Goals as goal
 
-pub returns-in-At : goal.returns-in-At
+same : (place : Option ℕ) (n : ℕ) → option_eq eqb place (Some n) ≡ ends_at n place
 unfolding ends_at
-returns-in-At c = rw c.in-At.is
+same (Some q) n = refl
+same None n = refl
 
-pub returns-in-Bad : goal.returns-in-Bad
-unfolding ends_at
-returns-in-Bad c = rw c.in-Bad.is
+pub returns : goal.returns
+returns c = c.eq.ensures ∙ same c.args.place _

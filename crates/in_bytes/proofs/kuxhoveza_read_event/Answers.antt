@@ -1,15 +1,11 @@
 use mathlib.Core.Path.{sym, ap, ◌∙◌}
-use mathlib.Core.List.{List}
-use Prim.Native.Nat.{ℕ}
+use lib.ListN.{length}
 use native.Mathlib.Omega.{arith}
-use borrow.Author.Tests.{not-true, not-false}
-use Rattle.laws.specs.Splice.{splice}
 use Rattle.codec.specs.Exact.{Bytes}
 use Rattle.in_bytes.specs.Event.{event, event_fits}
 use Rattle.in_bytes.proofs.CallLaws.{event_exact}
 use Rattle.in_bytes.proofs.DecideLaws.{event_place, event_stored, event_width}
-use Rattle.in_bytes.proofs.BoundaryLaws.{refused_by, done_by, not_whole, is_whole, all_read, taken_bad, taken_unfit, taken_done, event_room, event_taken}
-use Rattle.std.proofs.lemmas.Bool.{not_from_true, not_from_false}
+use Rattle.in_bytes.proofs.BoundaryLaws.{refused_by, done_all, not_whole, is_whole, all_read, taken_bad, taken_unfit, taken_done, event_room, event_taken}
 use Rattle.in_bytes.proofs.kuxhoveza_read_event.Goals as goal
 
 pub returns-then-event-ne-EVENT : goal.returns-then-event-ne-EVENT
@@ -22,8 +18,8 @@ pub returns-then-not-ends : goal.returns-then-not-ends
 returns-then-not-ends c =
     let a = c.args in
     let bytes = a.bytes.now in
-    let f = sym c.ends.ensures ∙ not-true _ (not_from_false _ c.if-not-ends.true) in
-    let p = event_place bytes c.read_longs-place.ensures.value in
+    let f = sym c.ends.ensures ∙ c.if-not-ends.true in
+    let p = event_place bytes c.read_numbers-place.ensures.value in
     let o = event_taken bytes _ c.if-event-ne-EVENT.false ∙ taken_bad _ (not_whole _ (event.read bytes 0) p f) in
     let b = refused_by a.event.now o in
     record { value = c.refused.ensures ∙ b.0; event_after = b.1 }
@@ -33,11 +29,11 @@ returns-then-not-event_fits c =
     let a = c.args in
     let bytes = a.bytes.now in
     let good : Bytes bytes = record { each = λ n. omega (arith, c.type_inv.bytes n) } in
-    let f = sym c.ends.ensures ∙ not-false _ (not_from_true _ c.if-not-ends.false) in
-    let p = event_place bytes c.read_longs-place.ensures.value in
+    let f = sym c.ends.ensures ∙ c.if-not-ends.false in
+    let p = event_place bytes c.read_numbers-place.ensures.value in
     let w = is_whole _ (event.read bytes 0) p f in
-    let n = all_read event event_exact bytes _ _ w good (sym event_width) (event_stored bytes c.read_longs-place.ensures.stored) in
-    let u = ap event_fits (sym n) ∙ sym c.event_fits.ensures ∙ not-true _ (not_from_false _ c.if-not-event_fits.true) in
+    let n = all_read event event_exact bytes _ _ w good (sym event_width) (event_stored bytes c.read_numbers-place.ensures.stored) in
+    let u = ap event_fits (sym n) ∙ sym c.event_fits.ensures ∙ c.if-not-event_fits.true in
     let o = event_taken bytes _ c.if-event-ne-EVENT.false ∙ taken_unfit _ w.all u in
     let b = refused_by a.event.now o in
     record { value = c.refused-then-not-event_fits.ensures ∙ b.0; event_after = b.1 }
@@ -47,11 +43,11 @@ returns c =
     let a = c.args in
     let bytes = a.bytes.now in
     let good : Bytes bytes = record { each = λ n. omega (arith, c.type_inv.bytes n) } in
-    let f = sym c.ends.ensures ∙ not-false _ (not_from_true _ c.if-not-ends.false) in
-    let p = event_place bytes c.read_longs-place.ensures.value in
+    let f = sym c.ends.ensures ∙ c.if-not-ends.false in
+    let p = event_place bytes c.read_numbers-place.ensures.value in
     let w = is_whole _ (event.read bytes 0) p f in
-    let n = all_read event event_exact bytes _ _ w good (sym event_width) (event_stored bytes c.read_longs-place.ensures.stored) in
-    let u = ap event_fits (sym n) ∙ sym c.event_fits.ensures ∙ not-false _ (not_from_true _ c.if-not-event_fits.false) in
+    let n = all_read event event_exact bytes _ _ w good (sym event_width) (event_stored bytes c.read_numbers-place.ensures.stored) in
+    let u = ap event_fits (sym n) ∙ sym c.event_fits.ensures ∙ c.if-not-event_fits.false in
     let o = event_taken bytes _ c.if-event-ne-EVENT.false ∙ taken_done _ w.all u in
-    let b = done_by a.event.now o in
-    record { value = c.done.ensures ∙ b.0; event_after = c.copy_longs.ensures ∙ ap (λ (ns : List ℕ). splice a.event.now 0 ns) n ∙ b.1 }
+    let b = done_all a.event.now o (sym (ap length n) ∙ c.read_numbers-place.ensures.stored.long ∙ sym c.if-event-ne-EVENT.false) in
+    record { value = c.done.ensures ∙ b.0; event_after = c.copy_from_slice.ensures.after ∙ n ∙ b.1 }

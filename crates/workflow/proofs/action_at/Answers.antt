@@ -1,3 +1,4 @@
+use Rattle.std.proofs.Common.{rules}
 use borrow.Author.Tests.{le-ltb, lt-ltb}
 use Rattle.workflow.specs.View.{action_at}
 use Rattle.laws.specs.Bool.{when◌then◌else◌}
@@ -7,6 +8,6 @@ pub returns-then-i-lt-ACTIONS : goal.returns-then-i-lt-ACTIONS
 unfolding action_at when◌then◌else◌
 returns-then-i-lt-ACTIONS c = simp (lt-ltb _ _ c.if-i-lt-ACTIONS.true)
 
-pub returns : goal.returns
+pub returns-else-i-lt-ACTIONS : goal.returns-else-i-lt-ACTIONS
 unfolding action_at when◌then◌else◌
-returns c = simp (le-ltb _ _ c.if-i-lt-ACTIONS.false)
+returns-else-i-lt-ACTIONS c = rw (le-ltb _ _ c.if-i-lt-ACTIONS.false) (search rules)

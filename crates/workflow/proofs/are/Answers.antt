@@ -7,6 +7,6 @@ pub returns-then-a-x : goal.returns-then-a-x
 unfolding are ◌and◌
 returns-then-a-x c = simp (eq-eqb _ _ c.if-a-x.true)
 
-pub returns : goal.returns
+pub returns-else-a-x : goal.returns-else-a-x
 unfolding are ◌and◌
-returns c = simp (ne_eqb _ _ c.if-a-x.false)
+returns-else-a-x c = simp (ne_eqb _ _ c.if-a-x.false)

@@ -1,3 +1,4 @@
+use Rattle.std.proofs.Common.{rules}
 use borrow.Author.Tests.{le-ltb, lt-ltb}
 use Rattle.workflow.specs.View.{declared_at}
 use Rattle.laws.specs.Bool.{when◌then◌else◌}
@@ -7,6 +8,6 @@ pub returns-then-i-lt-DECLARED : goal.returns-then-i-lt-DECLARED
 unfolding declared_at when◌then◌else◌
 returns-then-i-lt-DECLARED c = simp (lt-ltb _ _ c.if-i-lt-DECLARED.true)
 
-pub returns : goal.returns
+pub returns-else-i-lt-DECLARED : goal.returns-else-i-lt-DECLARED
 unfolding declared_at when◌then◌else◌
-returns c = simp (le-ltb _ _ c.if-i-lt-DECLARED.false)
+returns-else-i-lt-DECLARED c = rw (le-ltb _ _ c.if-i-lt-DECLARED.false) (search rules)

@@ -1,17 +1,15 @@
-use mathlib.Core.Path.{refl}
-use Rattle.laws.specs.First.{seek_start, seek_hit, seek_miss, seek_end}
+use Rattle.std.proofs.Common.{rules, ◌∙◌, ◌≡◌}
+use Rattle.std.specs.Option.{option_map}
+use borrow.Author.Tests.{tests}
+use Rattle.laws.specs.Chains.{range_find}
+use Rattle.workflow.specs.View.{cell}
+use Rattle.workflow.specs.Lookup.{are}
 use Rattle.workflow.specs.RowLaws.{find_row}
 use Rattle.workflow.proofs.find_row.Goals as goal
 
-pub loop-i-init : goal.loop-i-init
-unfolding find_row
-loop-i-init c = seek_start
-
-pub returns-then-are : goal.returns-then-are
-returns-then-are c = seek_hit c.loop-i.invariant c.loop-i-test.true refl c.are.ensures c.if-are.true
-
-pub loop-i-preserved : goal.loop-i-preserved
-loop-i-preserved c = seek_miss c.loop-i.invariant c.loop-i-test.true refl c.are.ensures c.if-are.false
-
 pub returns : goal.returns
-returns c = seek_end c.loop-i.invariant c.loop-i-test.false
+unfolding find_row
+returns c =
+    let e = range_find (λ j. are (cell c.args.w.now c.args.major j) (cell c.args.w.now c.args.minor j) c.args.x c.args.y) c.args.count _ _ (cell c.args.w.now c.args.value) c.find.result c.find.ensures.ran (λ x b q k. search (rules, tests)) in
+    let m : c.map.result ≡ option_map (cell c.args.w.now c.args.value) c.find.result = search rules in
+    m ∙ e

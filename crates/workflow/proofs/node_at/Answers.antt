@@ -7,6 +7,6 @@ pub returns-then-i-lt-NODES : goal.returns-then-i-lt-NODES
 unfolding node_at when◌then◌else◌
 returns-then-i-lt-NODES c = simp (lt-ltb _ _ c.if-i-lt-NODES.true)
 
-pub returns : goal.returns
+pub returns-else-i-lt-NODES : goal.returns-else-i-lt-NODES
 unfolding node_at when◌then◌else◌
-returns c = simp (le-ltb _ _ c.if-i-lt-NODES.false, ← c.no_node.ensures)
+returns-else-i-lt-NODES c = simp (le-ltb _ _ c.if-i-lt-NODES.false, ← c.no_node.ensures)

@@ -8,6 +8,6 @@ pub returns-then-n-capped : goal.returns-then-n-capped
 unfolding node_of
 returns-then-n-capped c = at_span _ _ _ _ (omega arith) c.node_at.ensures
 
-pub returns : goal.returns
+pub returns-else-n-capped : goal.returns-else-n-capped
 unfolding node_of
-returns c = c.no_node.ensures ∙ past_span _ _ _ _ (omega arith)
+returns-else-n-capped c = c.no_node.ensures ∙ past_span _ _ _ _ (omega arith)

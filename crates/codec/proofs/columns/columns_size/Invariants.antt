@@ -1,12 +1,8 @@
-use Prim.Native.Nat.{◌+◌, ◌-◌, ◌^◌}
-use lib.ListN.{length}
+use Prim.Native.Nat.{◌^◌}
 use Rattle.codec.specs.Numbers.{bytes_of, part}
 use Rattle.codec.specs.Stages.{total, columns}
 use Rattle.codec.proofs.ColumnsLoops.{CountingColumns}
 use Rattle.codec.proofs.columns.columns_size.Given as goal
 
-abbrev pub invariant-loop-c : goal.invariant-loop-c
-invariant-loop-c l = CountingColumns (2 ^ 32) l.rooms l.used l.xs (bytes_of ((columns (2 ^ 32) l.rooms l.used).fields (part l.xs l.first (l.first + total l.rooms)))) l.i l.c l.size
-
-abbrev pub decreases-loop-c : goal.decreases-loop-c
-decreases-loop-c l = length l.rooms - l.c
+abbrev pub invariant-loop-column : goal.invariant-loop-column
+invariant-loop-column l = CountingColumns (2 ^ 32) l.plan l.xs (bytes_of ((columns (2 ^ 32) l.plan).fields (part l.xs 0 (total l.plan)))) l.first l.column-index l.size

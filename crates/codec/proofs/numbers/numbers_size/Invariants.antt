@@ -1,9 +1,6 @@
-use Prim.Native.Nat.{◌-◌}
+use Rattle.std.proofs.Common.{length}
 use Rattle.codec.proofs.NumbersLoops.{Sizing}
 use Rattle.codec.proofs.numbers.numbers_size.Given as goal
 
-abbrev pub invariant-loop-i : goal.invariant-loop-i
-invariant-loop-i l = Sizing l.xs l.first l.end l.i l.size
-
-abbrev pub decreases-loop-i : goal.decreases-loop-i
-decreases-loop-i l = l.end - l.i
+abbrev pub invariant-loop-x : goal.invariant-loop-x
+invariant-loop-x g l = Sizing (g.T.Unsigned.as_numbers l.xs) 0 (length l.xs) l.x-index l.size

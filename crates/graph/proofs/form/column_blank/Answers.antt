@@ -1,13 +1,9 @@
-use Rattle.std.proofs.Common.{rules}
-use native.Mathlib.Omega.{arith}
-use Rattle.laws.specs.Zeros.{dirt_start, dirt_more, dirt_end}
+use Rattle.std.proofs.Common.{rules, ◌+◌, arith}
+use Rattle.std.proofs.lemmas.Iterator.{YieldsList-from_slice}
+use Rattle.laws.specs.Chains.{fold_zeros, part_places}
 use Rattle.graph.proofs.form.column_blank.Goals as goal
 
-pub loop-i-init : goal.loop-i-init
-loop-i-init c = (search rules, rw c.capped.ensures dirt_start)
-
-pub loop-i-preserved : goal.loop-i-preserved
-loop-i-preserved c = (c.loop-i.invariant.0, dirt_more c.loop-i.invariant.1 (omega arith))
-
 pub returns : goal.returns
-returns c = dirt_end c.loop-i.invariant.1 (omega arith)
+returns c =
+    rw (← c.capped.ensures, ← part_places c.args.w.now (c.args.column + c.capped.result) (c.args.column + c.args.room) (omega arith) (omega arith))
+    (fold_zeros (λ d e x q k. (search rules, search rules)) c.fold.ensures.ran (YieldsList-from_slice _ c.iter.ensures.rest))

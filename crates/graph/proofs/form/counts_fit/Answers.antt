@@ -1,5 +1,11 @@
-use Rattle.laws.specs.Bool.{strict_and, and_left}
+use Rattle.std.proofs.Common.{rules}
+use Rattle.laws.specs.Bool.{◌and◌}
 use Rattle.graph.proofs.form.counts_fit.Goals as goal
 
-pub returns : goal.returns
-returns c = simp (← c.has_room.ensures, ← c.has_room-2.ensures, ← c.has_room-3.ensures, ← c.has_room-4.ensures, ← c.has_room-5.ensures) (simp and_left (simp strict_and))
+pub returns-then-has_room-4 : goal.returns-then-has_room-4
+unfolding ◌and◌
+returns-then-has_room-4 c = search rules
+
+pub returns-else-has_room-4 : goal.returns-else-has_room-4
+unfolding ◌and◌
+returns-else-has_room-4 c = search rules

@@ -1,11 +1,18 @@
-use Rattle.std.proofs.lemmas.Bool.{not_from_true, not_from_false}
+use Rattle.std.proofs.Common.{rules}
+use borrow.Author.Tests.{tests}
+use Rattle.laws.specs.Chains.{range_all}
+use Rattle.laws.specs.Bool.{◌and◌}
+use Rattle.workflow.specs.View.{workflow, declared_at}
+use Rattle.graph.specs.Form.{formed_declared}
 use Rattle.graph.specs.FormLaws.{declared_parts}
-use Rattle.laws.specs.Bool.{passed, stopped}
-use mathlib.Core.Path.{◌∙◌, sym}
 use Rattle.graph.proofs.form.declared_formed.Goals as goal
 
-pub returns-then-not-rows_rise : goal.returns-then-not-rows_rise
-returns-then-not-rows_rise c = stopped (rw c.capped-count.ensures at c.rows_rise.ensures) (not_from_false _ c.if-not-rows_rise.true) _ ∙ declared_parts _
+pub returns-then-rows_rise : goal.returns-then-rows_rise
+unfolding ◌and◌
+returns-then-rows_rise c =
+    rw (← declared_parts, ← rw c.capped-count.ensures at c.rows_rise.ensures, c.if-rows_rise.true)
+    (rw c.capped-count.ensures at (range_all (λ j. formed_declared (workflow c.args.w.now) (declared_at c.args.w.now j)) 0 _ _ _ _ c.all.ensures.ran (λ x b q k. search (rules, tests))))
 
-pub returns : goal.returns
-returns c = rw c.capped-count.ensures at c.formed_rows.ensures ∙ sym (passed (rw c.capped-count.ensures at c.rows_rise.ensures) (not_from_true _ c.if-not-rows_rise.false) _) ∙ declared_parts _
+pub returns-else-rows_rise : goal.returns-else-rows_rise
+unfolding ◌and◌
+returns-else-rows_rise c = rw (← declared_parts, ← rw c.capped-count.ensures at c.rows_rise.ensures, c.if-rows_rise.false)

@@ -1,5 +1,10 @@
+use Rattle.std.proofs.Common.{rules, ◌∙◌}
+use borrow.Author.Tests.{tests}
+use Rattle.laws.specs.Chains.{range_all}
+use Rattle.workflow.specs.View.{node_at}
+use Rattle.graph.specs.Form.{formed_node}
 use Rattle.graph.specs.FormLaws.{all_nodes}
 use Rattle.graph.proofs.form.nodes_formed.Goals as goal
 
 pub returns : goal.returns
-returns c = rw (c.formed_rows.ensures, c.capped-count.ensures) (all_nodes _)
+returns c = range_all (λ j. formed_node (node_at c.args.w.now j)) 0 _ _ _ _ c.all.ensures.ran (λ x b q k. search (rules, tests)) ∙ rw c.capped-count.ensures (all_nodes _)

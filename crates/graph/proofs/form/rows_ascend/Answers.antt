@@ -1,16 +1,13 @@
-use Rattle.std.proofs.lemmas.Bool.{not_from_true, not_from_false}
-use Rattle.graph.specs.FormLaws.{rows_ascend, ordering_start, ordering_stop, ordering_next, ordering_end}
+use Rattle.std.proofs.Common.{rules, ℕ, ◌-◌, ◌∙◌}
+use borrow.Author.Tests.{tests}
+use Rattle.laws.specs.Chains.{range_all}
+use Rattle.workflow.specs.View.{cell}
+use Rattle.graph.specs.Form.{ascends}
+use Rattle.graph.specs.FormLaws.{rows_ascend, chained_places}
 use Rattle.graph.proofs.form.rows_ascend.Goals as goal
 
-pub loop-i-init : goal.loop-i-init
-unfolding rows_ascend
-loop-i-init c = ordering_start _ _
-
-pub returns-then-not-ascends : goal.returns-then-not-ascends
-returns-then-not-ascends c = ordering_stop c.loop-i.invariant c.loop-i-test.true c.ascends.ensures (not_from_false _ c.if-not-ascends.true)
-
-pub loop-i-preserved : goal.loop-i-preserved
-loop-i-preserved c = ordering_next c.loop-i.invariant c.loop-i-test.true c.ascends.ensures (not_from_true _ c.if-not-ascends.false)
-
 pub returns : goal.returns
-returns c = ordering_end c.loop-i.invariant c.loop-i-test.false
+unfolding rows_ascend
+returns c =
+    let r = λ (i j : ℕ). ascends (cell c.args.w.now c.args.major i) (cell c.args.w.now c.args.minor i) (cell c.args.w.now c.args.major j) (cell c.args.w.now c.args.minor j) in
+    range_all (λ i. r (i - 1) i) 1 _ _ _ _ c.all.ensures.ran (λ x b q k. search (rules, tests)) ∙ chained_places r _

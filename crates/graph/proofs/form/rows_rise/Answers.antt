@@ -1,17 +1,9 @@
-use mathlib.Core.Path.{refl, sym}
-use borrow.Author.Tests.{lt-leb, le-leb}
-use Rattle.graph.specs.FormLaws.{rows_rise, ordering_start, ordering_stop, ordering_next, ordering_end}
+use Rattle.std.proofs.lemmas.List.Sorted.{non_decreasing_from_is_sorted}
+use Rattle.std.proofs.Common.{◌∙◌, arith}
+use Rattle.laws.specs.Chains.{column_span}
+use Rattle.graph.specs.FormLaws.{rows_rise, sorted_rises}
 use Rattle.graph.proofs.form.rows_rise.Goals as goal
 
-pub loop-i-init : goal.loop-i-init
-unfolding rows_rise
-loop-i-init c = ordering_start _ _
-
-pub returns-then-w-key : goal.returns-then-w-key
-returns-then-w-key c = ordering_stop c.loop-i.invariant c.loop-i-test.true (sym (lt-leb _ _ c.if-w-key.true)) refl
-
-pub loop-i-preserved : goal.loop-i-preserved
-loop-i-preserved c = ordering_next c.loop-i.invariant c.loop-i-test.true (sym (le-leb _ _ c.if-w-key.false)) refl
-
 pub returns : goal.returns
-returns c = ordering_end c.loop-i.invariant c.loop-i-test.false
+unfolding rows_rise
+returns c = sorted_rises _ _ (non_decreasing_from_is_sorted _ _ c.is_sorted.ensures.cases) ∙ rw (column_span c.args.w.now c.args.key c.args.count (omega arith))

@@ -1,5 +1,4 @@
 use Rattle.graph.specs.ReachLaws.{walk_start, walk_next, walk_less, walk_step, walk_end}
-use native.Mathlib.Omega.{arith}
 use Rattle.graph.proofs.reach.closed.Goals as goal
 
 pub masks-masks-requires : goal.masks-masks-requires
@@ -10,15 +9,6 @@ loop-frontier-init c = walk_start _ c.requires.0 _ _ c.requires.1
 
 pub bit-done-requires : goal.bit-done-requires
 bit-done-requires c = (walk_next c.loop-frontier.invariant c.loop-frontier-test.true).below
-
-pub overflow_cast-m : goal.overflow_cast-m
-overflow_cast-m c = omega (arith, (walk_next c.loop-frontier.invariant c.loop-frontier-test.true).below)
-
-pub offset_bounds-masks-m : goal.offset_bounds-masks-m
-offset_bounds-masks-m c = omega (arith, (walk_next c.loop-frontier.invariant c.loop-frontier-test.true).below)
-
-pub bounds-masks-m : goal.bounds-masks-m
-bounds-masks-m c = (walk_next c.loop-frontier.invariant c.loop-frontier-test.true).below
 
 pub loop-frontier-smaller : goal.loop-frontier-smaller
 loop-frontier-smaller c = walk_less c.loop-frontier.invariant c.loop-frontier-test.true c.bit-done.ensures

@@ -1,15 +1,21 @@
-use Rattle.graph.specs.Accepted.{sound}
-use mathlib.Core.Path.{refl, ◌∙◌}
-use native.Mathlib.Omega.{arith}
+use Rattle.std.proofs.Common.{rules, arith, refl, ◌∙◌, ◌≡◌}
+use Rattle.laws.specs.Bool.{when◌then◌else◌}
 use Rattle.workflow.specs.View.{workflow}
-use Rattle.graph.specs.ReachLaws.{ends_more, ends_end}
+use Rattle.graph.specs.Accepted.{sound}
+use Rattle.graph.specs.ReachLaws.{add_end, ends_more, ends_end}
 use Rattle.graph.proofs.reach.ends.Goals as goal
 
-pub loop-i-init : goal.loop-i-init
-loop-i-init c = ((sound _ c.requires).few_nodes, refl)
+pub bit-set-requires : goal.bit-set-requires
+bit-set-requires c = omega (arith, (sound _ c.requires).few_nodes)
 
-pub loop-i-preserved : goal.loop-i-preserved
-loop-i-preserved c = (c.loop-i.invariant.0, ends_more _ _ _ _ (omega arith) c.node_of-x.ensures c.add_end-set.ensures ∙ c.loop-i.invariant.1)
+pub loop-node-init : goal.loop-node-init
+loop-node-init c = refl
+
+pub loop-node-preserved : goal.loop-node-preserved
+unfolding when◌then◌else◌
+loop-node-preserved c =
+    let e : c.if-node_of-ge-COMPLETE.set ≡ add_end c.loop-node.set c.loop-node.node c.node_of.result.kind = search rules in
+    ends_more _ _ _ _ (omega arith) c.node_of.ensures e ∙ c.loop-node.invariant
 
 pub returns : goal.returns
-returns c = ends_end (workflow c.args.w.now) _ _ _ (omega arith) ∙ c.loop-i.invariant.1
+returns c = ends_end (workflow c.args.w.now) _ _ _ (omega arith) ∙ c.loop-node.invariant

@@ -8,17 +8,17 @@ pub loop-i-init : goal.loop-i-init
 unfolding masks
 loop-i-init c = rw c.capped-k.ensures
 
-pub bounds-masks-n : goal.bounds-masks-n
-bounds-masks-n c = (route_within _ c.requires c.args.back _ (omega arith) c.route_at.ensures c.turned-x.ensures).node
-
 pub bit-requires : goal.bit-requires
 bit-requires c = (route_within _ c.requires c.args.back _ (omega arith) c.route_at.ensures c.turned-x.ensures).target
-
-pub bounds-masks-n-in-loop-i : goal.bounds-masks-n-in-loop-i
-bounds-masks-n-in-loop-i c = (route_within _ c.requires c.args.back _ (omega arith) c.route_at.ensures c.turned-x.ensures).node
 
 pub loop-i-preserved : goal.loop-i-preserved
 loop-i-preserved c = leads_more c.args.back (route_at c.args.w.now) _ _ _ (omega arith) c.route_at.ensures c.turned-x.ensures c.bit.ensures ∙ c.loop-i.invariant
 
 pub returns : goal.returns
 returns c = leads_end _ (route_at c.args.w.now) _ _ _ (omega arith) ∙ c.loop-i.invariant
+
+pub bounds-masks-x : goal.bounds-masks-x
+bounds-masks-x c = (route_within _ c.requires c.args.back _ (omega arith) c.route_at.ensures c.turned-x.ensures).node
+
+pub bounds-masks-x-in-loop-i : goal.bounds-masks-x-in-loop-i
+bounds-masks-x-in-loop-i c = (route_within _ c.requires c.args.back _ (omega arith) c.route_at.ensures c.turned-x.ensures).node

@@ -1,5 +1,4 @@
 use mathlib.Core.Path.{◌≡◌}
-use Prim.Native.Nat.{◌-◌}
 use Rattle.laws.specs.Rows.{span}
 use Rattle.workflow.specs.View.{workflow, route_at}
 use Rattle.graph.specs.ReachLaws.{leads, masks}
@@ -8,6 +7,3 @@ use Rattle.graph.proofs.reach.masks.Given as goal
 -- the masks with the routes from i on are the whole answer
 abbrev pub invariant-loop-i : goal.invariant-loop-i
 invariant-loop-i l = leads l.back (span (route_at l.w) l.i l.k) l.masks ≡ masks (workflow l.w) l.back
-
-abbrev pub decreases-loop-i : goal.decreases-loop-i
-decreases-loop-i l = l.k - l.i

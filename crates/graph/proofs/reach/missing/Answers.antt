@@ -1,8 +1,6 @@
-use Rattle.graph.specs.ReachLaws.{missing_at, missing_none}
+use mathlib.Core.Path.{◌∙◌}
+use Rattle.graph.specs.ReachLaws.{missing_is}
 use Rattle.graph.proofs.reach.missing.Goals as goal
 
-pub returns-then-n-count : goal.returns-then-n-count
-returns-then-n-count c = missing_at _ _ c.ranges.set.fits c.requires c.if-n-count.true
-
 pub returns : goal.returns
-returns c = missing_none _ _ c.ranges.set.fits c.requires c.if-n-count.false
+returns c = c.then_some.ensures ∙ missing_is _ _ c.ranges.set.fits c.requires

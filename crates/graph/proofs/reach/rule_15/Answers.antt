@@ -1,4 +1,10 @@
+use Rattle.graph.specs.Sets.{reaching_end}
+use Rattle.graph.specs.Reach.{ends_fit}
 use Rattle.graph.proofs.reach.rule_15.Goals as goal
 
+pub lowest_unreached-requires : goal.lowest_unreached-requires
+lowest_unreached-requires c = (c.requires, rw c.ends.ensures (ends_fit _ c.requires))
+
 pub returns : goal.returns
-returns c = rw (c.rule_at.ensures, c.lowest_15.ensures)
+unfolding reaching_end
+returns c = rw (c.rule_at.ensures, c.lowest_unreached.ensures, c.ends.ensures)

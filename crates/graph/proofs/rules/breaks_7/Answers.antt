@@ -1,19 +1,18 @@
-use borrow.Author.Tests.{eq-eqb, ne_eqb}
+use Rattle.std.proofs.Common.{rules, arith}
 use Rattle.laws.specs.Bool.{◌or◌}
-use Rattle.graph.specs.RulesLaws.{declared_outcomes, breaks_7_at}
+use Rattle.graph.specs.RulesLaws.{declared_within, declared_outcomes, breaks_7_at}
 use Rattle.graph.proofs.rules.breaks_7.Goals as goal
 
-pub returns-then-from-to : goal.returns-then-from-to
-unfolding ◌or◌
-returns-then-from-to c = simp (breaks_7_at c.requires, eq-eqb _ _ c.if-from-to.true)
+pub numbers-requires : goal.numbers-requires
+numbers-requires c = declared_within c.requires _ (omega arith)
 
 pub is_declared_again-requires : goal.is_declared_again-requires
-is_declared_again-requires c = declared_outcomes c.requires
+is_declared_again-requires c = rw c.numbers.ensures (declared_outcomes c.requires)
 
 pub returns-then-is_declared_again : goal.returns-then-is_declared_again
 unfolding ◌or◌
-returns-then-is_declared_again c = simp (breaks_7_at c.requires, ne_eqb _ _ c.if-from-to.false, ← c.is_0_2-two.ensures, ← c.is_declared_again.ensures, c.if-is_declared_again.true)
+returns-then-is_declared_again c = rw (breaks_7_at c.requires) (search rules)
 
-pub returns : goal.returns
+pub returns-else-is_declared_again : goal.returns-else-is_declared_again
 unfolding ◌or◌
-returns c = simp (breaks_7_at c.requires, ne_eqb _ _ c.if-from-to.false, ← c.is_0_2-two.ensures, ← c.is_declared_again.ensures, c.if-is_declared_again.false, ← c.policy_of-x.ensures, ← c.is_within.ensures)
+returns-else-is_declared_again c = rw (breaks_7_at c.requires) (search rules)

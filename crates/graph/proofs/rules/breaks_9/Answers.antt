@@ -1,23 +1,20 @@
-use borrow.Author.Tests.{eq-eqb, ne_eqb}
+use Rattle.std.proofs.Common.{rules, arith}
+use borrow.Author.Tests.{ne_eqb}
 use Rattle.laws.specs.Bool.{◌and◌, ◌or◌}
-use Rattle.graph.specs.RulesLaws.{routes_end, breaks_9_at}
+use Rattle.graph.specs.RulesLaws.{routes_within, breaks_9_at}
 use Rattle.graph.proofs.rules.breaks_9.Goals as goal
 
-pub returns-then-x-ne-AWAIT_SIGNAL : goal.returns-then-x-ne-AWAIT_SIGNAL
-unfolding ◌and◌
-returns-then-x-ne-AWAIT_SIGNAL c = simp (breaks_9_at c.requires, ← c.node_of-x.ensures, ne_eqb _ _ c.if-x-ne-AWAIT_SIGNAL.true)
-
-pub returns-then-from-to : goal.returns-then-from-to
-unfolding ◌and◌ ◌or◌
-returns-then-from-to c = simp (breaks_9_at c.requires, ← c.node_of-x.ensures, eq-eqb _ _ c.if-x-ne-AWAIT_SIGNAL.false, eq-eqb _ _ c.if-from-to.true)
+pub numbers-requires : goal.numbers-requires
+numbers-requires c = routes_within c.requires _ (omega arith)
 
 pub returns-then-routes_exhausted : goal.returns-then-routes_exhausted
 unfolding ◌and◌ ◌or◌
-returns-then-routes_exhausted c = simp (breaks_9_at c.requires, ← c.node_of-x.ensures, eq-eqb _ _ c.if-x-ne-AWAIT_SIGNAL.false, ne_eqb _ _ c.if-from-to.false, ← c.routes_exhausted.ensures, c.if-routes_exhausted.true)
+returns-then-routes_exhausted c = rw (breaks_9_at c.requires) (search rules)
 
-pub leads_nowhere-requires : goal.leads_nowhere-requires
-leads_nowhere-requires c = routes_end c.requires
-
-pub returns : goal.returns
+pub returns-else-routes_exhausted : goal.returns-else-routes_exhausted
 unfolding ◌and◌ ◌or◌
-returns c = simp (breaks_9_at c.requires, ← c.node_of-x.ensures, eq-eqb _ _ c.if-x-ne-AWAIT_SIGNAL.false, ne_eqb _ _ c.if-from-to.false, ← c.routes_exhausted.ensures, c.if-routes_exhausted.false, ← c.leads_nowhere.ensures)
+returns-else-routes_exhausted c = rw (breaks_9_at c.requires, ← c.numbers.ensures) (search rules)
+
+pub returns-else-x-eq-AWAIT_SIGNAL : goal.returns-else-x-eq-AWAIT_SIGNAL
+unfolding ◌and◌
+returns-else-x-eq-AWAIT_SIGNAL c = simp (breaks_9_at c.requires, ← c.node_of-x.ensures, ne_eqb _ _ c.if-x-eq-AWAIT_SIGNAL.false)

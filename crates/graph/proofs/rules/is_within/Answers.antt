@@ -1,7 +1,8 @@
 use Rattle.std.proofs.Common.{rules}
+use borrow.Author.Tests.{tests}
 use Rattle.laws.specs.Bool.{◌and◌}
 use Rattle.graph.proofs.rules.is_within.Goals as goal
 
 pub returns : goal.returns
 unfolding ◌and◌
-returns c = search rules
+returns c = let h = c.contains.ensures in search (rules, tests)

@@ -1,18 +1,9 @@
-use mathlib.Core.Path.{refl}
-use native.Mathlib.Omega.{arith}
-use borrow.Author.Tests.{le-leb, lt-leb}
-use Rattle.laws.specs.First.{seek_hit, seek_miss, seek_end}
-use Rattle.graph.specs.RulesLaws.{seek_from}
+use Rattle.std.proofs.Common.{rules, leb, ◌∙◌}
+use borrow.Author.Tests.{tests}
+use Rattle.std.proofs.lemmas.Iterator.{YieldsList-from_slice}
+use Rattle.std.proofs.lemmas.Iterator.Search.{any_from_yields_List}
+use Rattle.laws.specs.Chains.{some_any}
 use Rattle.graph.proofs.rules.leads_nowhere.Goals as goal
 
-pub loop-i-init : goal.loop-i-init
-loop-i-init c = seek_from _
-
-pub returns-then-nodes-w : goal.returns-then-nodes-w
-returns-then-nodes-w c = seek_hit c.loop-i.invariant (omega arith) refl refl (le-leb _ _ c.if-nodes-w.true)
-
-pub loop-i-preserved : goal.loop-i-preserved
-loop-i-preserved c = seek_miss c.loop-i.invariant (omega arith) refl refl (lt-leb _ _ c.if-nodes-w.false)
-
 pub returns : goal.returns
-returns c = seek_end c.loop-i.invariant (omega arith)
+returns c = any_from_yields_List (leb c.args.nodes) _ _ _ c.any.ensures.ran (YieldsList-from_slice c.args.targets.now cc) (λ x b q k. search (rules, tests)) ∙ some_any _ _

@@ -1,24 +1,23 @@
-use mathlib.Core.Path.{refl}
-use native.Mathlib.Omega.{arith}
-use Rattle.laws.specs.First.{seek_hit, seek_miss, seek_end}
-use Rattle.graph.specs.SearchLaws.{parts_of}
-use Rattle.graph.specs.RulesLaws.{routes_rise, the_group, walk_start}
+use Rattle.std.proofs.Common.{refl, ap, arith}
+use Rattle.laws.specs.First.{seek_start, seek_hit, seek_miss, seek_end}
+use Rattle.graph.specs.declared.search.Rows.{Rows}
+use Rattle.graph.specs.RulesLaws.{routes_rise, the_group, first_place}
 use Rattle.graph.proofs.rules.lowest_breaking.Goals as goal
 
-pub loop-i-init : goal.loop-i-init
-loop-i-init c = walk_start
+pub loop-node-init : goal.loop-node-init
+loop-node-init g c = record { place = first_place _ _ _; seek = λ p h. seek_start }
 
-pub rows_end-to-requires : goal.rows_end-to-requires
-rows_end-to-requires c = (c.loop-i.invariant.place, rw c.capped-k.ensures (routes_rise _ c.requires))
-
-pub breaks-requires : goal.breaks-requires
-breaks-requires c = the_group c.requires c.capped-k.ensures c.loop-i.invariant.place c.rows_end-to.ensures
+pub starting_at-routes-requires : goal.starting_at-routes-requires
+starting_at-routes-requires g c = (c.loop-node.invariant.place, rw c.capped-k.ensures (routes_rise _ c.requires.formed))
 
 pub returns-then-breaks : goal.returns-then-breaks
-returns-then-breaks c = seek_hit c.loop-i.invariant.seek (omega (arith, (parts_of _ c.requires).few_nodes)) refl c.breaks.ensures c.if-breaks.true
+returns-then-breaks g c = λ p h. seek_hit (c.loop-node.invariant.seek p h) (omega arith) refl (h _ _ _ (the_group c.requires.formed c.capped-k.ensures c.starting_at-routes.ensures) c.breaks.ensures) c.if-breaks.true
 
-pub loop-i-preserved : goal.loop-i-preserved
-loop-i-preserved c = record { place = c.rows_end-to.ensures; seek = seek_miss c.loop-i.invariant.seek (omega (arith, (parts_of _ c.requires).few_nodes)) refl c.breaks.ensures c.if-breaks.false }
+pub loop-node-preserved : goal.loop-node-preserved
+loop-node-preserved g c = record {
+  place = ap (λ (r : Rows). r.to) c.starting_at-routes.ensures;
+  seek = λ p h. seek_miss (c.loop-node.invariant.seek p h) (omega arith) refl (h _ _ _ (the_group c.requires.formed c.capped-k.ensures c.starting_at-routes.ensures) c.breaks.ensures) c.if-breaks.false;
+}
 
 pub returns : goal.returns
-returns c = seek_end c.loop-i.invariant.seek (omega (arith, (parts_of _ c.requires).few_nodes))
+returns g c = λ p h. seek_end (c.loop-node.invariant.seek p h) (omega arith)

@@ -1,14 +1,18 @@
-use Rattle.std.specs.Prelude.{Some, None}
+use Rattle.std.specs.Prelude.{◌≡◌, ℕ, Bool, Some, None}
+use Rattle.laws.specs.First.{Seek}
 use Rattle.workflow.specs.Layout as layout
-use Prim.Native.Nat.{◌-◌}
-use Rattle.workflow.specs.View.{workflow, at}
-use Rattle.graph.specs.RulesLaws.{breaks, Walking}
+use Rattle.workflow.specs.View.{at}
+use Rattle.graph.specs.declared.search.Rows.{Rows}
+use Rattle.graph.specs.SearchLaws.{rows_below}
+use Rattle.graph.specs.RulesLaws.{RoutesOf}
 use Rattle.graph.specs.Lowest.{lowest}
 use Rattle.graph.proofs.rules.lowest_breaking.Given as goal
 
--- the routes of node i start at `from`, and the lowest from i on is the whole answer
-abbrev pub invariant-loop-i : goal.invariant-loop-i
-invariant-loop-i l = Walking (breaks (workflow l.w) l.rule) (λ _ j. Some j) None l.w layout.route_node l.k (at l.w layout.node_count) l.from l.i (lowest (at l.w layout.node_count) (breaks (workflow l.w) l.rule))
-
-abbrev pub decreases-loop-i : goal.decreases-loop-i
-decreases-loop-i l = l.n - l.i
+-- the routes of this node start at `from`, and of each test that the calls answer, the lowest from here on is the whole answer
+abbrev pub invariant-loop-node : goal.invariant-loop-node
+invariant-loop-node g l =
+    record {
+      place : l.from ≡ rows_below l.w layout.route_node l.k l.node;
+      seek : (p : ℕ → Bool) → ((node : ℕ) (routes : Rows) (b : Bool) → RoutesOf l.w node routes → goal.F-post g l.breaks node routes b → b ≡ p node)
+          → Seek p (λ _ j. Some j) None (λ j. j) (at l.w layout.node_count) l.node (lowest (at l.w layout.node_count) p);
+    }

@@ -1,22 +1,25 @@
-use mathlib.Core.Path.{refl, sym, ◌∙◌}
-use native.Mathlib.Omega.{arith}
-use borrow.Author.Tests.{eq-eqb, ne_eqb}
-use Rattle.laws.specs.First.{seek_start, seek_hit, seek_miss, seek_end}
+use Rattle.std.proofs.Common.{rules, arith, sym, ◌∙◌, ◌≡◌, eqb}
+use borrow.Author.Tests.{tests}
+use Rattle.std.proofs.lemmas.Iterator.{serves_from_Range}
+use Rattle.laws.specs.Chains.{range_first}
+use Rattle.workflow.specs.Layout.{node_count, node_has_params}
+use Rattle.workflow.specs.View.{workflow, at, cell}
 use Rattle.graph.specs.SearchLaws.{parts_of}
+use Rattle.graph.specs.Rules.{breaks_1}
 use Rattle.graph.specs.RulesLaws.{with_params, no_params}
 use Rattle.graph.proofs.rules.lowest_with_params.Goals as goal
 
 pub returns-then-is_0_2 : goal.returns-then-is_0_2
 returns-then-is_0_2 c = no_params c.args.w.now (sym c.is_0_2.ensures ∙ c.if-is_0_2.true)
 
-pub loop-i-init : goal.loop-i-init
-loop-i-init c = seek_start
-
-pub returns-then-w-i-eq1 : goal.returns-then-w-i-eq1
-returns-then-w-i-eq1 c = seek_hit c.loop-i.invariant (omega (arith, (parts_of _ c.requires).few_nodes)) refl (with_params c.args.w.now c.loop-i.i (omega arith) (sym c.is_0_2.ensures ∙ c.if-is_0_2.false)) (eq-eqb _ _ c.if-w-i-eq1.true)
-
-pub loop-i-preserved : goal.loop-i-preserved
-loop-i-preserved c = seek_miss c.loop-i.invariant (omega (arith, (parts_of _ c.requires).few_nodes)) refl (with_params c.args.w.now c.loop-i.i (omega arith) (sym c.is_0_2.ensures ∙ c.if-is_0_2.false)) (ne_eqb _ _ c.if-w-i-eq1.false)
+pub find-requires-clause-callable : goal.find-requires-clause-callable
+find-requires-clause-callable c =
+    let few = (parts_of _ c.requires).few_nodes in
+    serves_from_Range (λ x q k. search rules) (λ x a b. search rules)
 
 pub returns : goal.returns
-returns c = seek_end c.loop-i.invariant (omega (arith, (parts_of _ c.requires).few_nodes))
+returns c =
+    let few = (parts_of _ c.requires).few_nodes in
+    let f = sym c.is_0_2.ensures ∙ c.if-is_0_2.false in
+    range_first (breaks_1 (workflow c.args.w.now)) (at c.args.w.now node_count) _ _ c.find.result c.find.ensures.ran
+    (λ x b q k. (search rules, λ h. let e : b ≡ eqb (cell c.args.w.now node_has_params x) 1 = search (rules, tests) in e ∙ with_params c.args.w.now x (omega arith) f))

@@ -1,6 +1,10 @@
 use Rattle.laws.specs.Bool.{◌and◌}
 use Rattle.graph.proofs.rules.may_route_exhausted.Goals as goal
 
-pub returns : goal.returns
+pub returns-then-is_0_2 : goal.returns-then-is_0_2
 unfolding ◌and◌
-returns c = simp (← c.is_0_2.ensures, ← c.node_of-x.ensures)
+returns-then-is_0_2 c = simp (← c.is_0_2.ensures, c.if-is_0_2.true, ← c.node_of.ensures)
+
+pub returns-else-is_0_2 : goal.returns-else-is_0_2
+unfolding ◌and◌
+returns-else-is_0_2 c = simp (← c.is_0_2.ensures, c.if-is_0_2.false)

@@ -1,32 +1,36 @@
-use mathlib.Core.Path.{◌∙◌}
+use Rattle.std.proofs.Common.{rules, arith}
 use Rattle.laws.specs.Bool.{◌or◌}
-use Rattle.graph.specs.RulesLaws.{actions_rise, the_group, misroutes, routes_end, nowhere_in}
-use Rattle.graph.specs.SearchLaws.{below_before, rising_halved}
+use Rattle.graph.specs.RulesLaws.{actions_rise, the_group, declared_within, routes_within, routes_outcomes, declared_outcomes, misroutes_at}
 use Rattle.graph.proofs.rules.misroutes.Goals as goal
 
-pub rows_before-first-requires : goal.rows_before-first-requires
-rows_before-first-requires c = rising_halved _ (rw c.capped-k.ensures (actions_rise _ c.requires.formed))
+pub of-rows-requires : goal.of-rows-requires
+of-rows-requires c = rw c.capped-k.ensures (actions_rise _ c.requires.formed)
 
-pub rows_end-end-requires : goal.rows_end-end-requires
-rows_end-end-requires c = (c.rows_before-first.ensures ∙ below_before _ _ _ _ _, rw c.capped-k.ensures (actions_rise _ c.requires.formed))
+pub numbers-declared-requires : goal.numbers-declared-requires
+numbers-declared-requires c = declared_within (the_group c.requires.formed c.capped-k.ensures c.of-rows.ensures) _ (omega arith)
 
-pub has_unrouted-requires : goal.has_unrouted-requires
-has_unrouted-requires c = (c.requires, the_group c.requires.formed c.capped-k.ensures (c.rows_before-first.ensures ∙ below_before _ _ _ _ _) c.rows_end-end.ensures)
+pub numbers-routed-requires : goal.numbers-routed-requires
+numbers-routed-requires c = routes_within c.requires _ (omega arith)
 
-pub returns-then-has_unrouted : goal.returns-then-has_unrouted
-unfolding misroutes ◌or◌
-returns-then-has_unrouted c = simp (← c.has_unrouted.ensures, c.if-has_unrouted.true)
+pub marks-requires : goal.marks-requires
+marks-requires c = rw c.numbers-routed.ensures (routes_outcomes c.requires)
 
-pub has_extra-requires : goal.has_extra-requires
-has_extra-requires c = (c.requires, the_group c.requires.formed c.capped-k.ensures (c.rows_before-first.ensures ∙ below_before _ _ _ _ _) c.rows_end-end.ensures)
+pub has_unmarked-requires : goal.has_unmarked-requires
+has_unmarked-requires c = rw c.numbers-declared.ensures (declared_outcomes (the_group c.requires.formed c.capped-k.ensures c.of-rows.ensures))
 
-pub returns-then-has_extra : goal.returns-then-has_extra
-unfolding misroutes ◌or◌
-returns-then-has_extra c = simp (← c.has_unrouted.ensures, c.if-has_unrouted.false, ← c.has_extra.ensures, c.if-has_extra.true)
+pub known-requires : goal.known-requires
+known-requires c = rw c.numbers-declared.ensures (declared_outcomes (the_group c.requires.formed c.capped-k.ensures c.of-rows.ensures))
 
-pub leads_nowhere-requires : goal.leads_nowhere-requires
-leads_nowhere-requires c = routes_end c.requires
+pub has_unmarked-requires-else-has_unmarked : goal.has_unmarked-requires-else-has_unmarked
+has_unmarked-requires-else-has_unmarked c = rw c.numbers-routed.ensures (routes_outcomes c.requires)
 
-pub returns : goal.returns
-unfolding misroutes ◌or◌
-returns c = simp (← c.has_unrouted.ensures, c.if-has_unrouted.false, ← c.has_extra.ensures, c.if-has_extra.false, nowhere_in c.requires, ← c.leads_nowhere.ensures)
+pub numbers-requires : goal.numbers-requires
+numbers-requires c = routes_within c.requires _ (omega arith)
+
+pub returns-then-has_unmarked-2 : goal.returns-then-has_unmarked-2
+unfolding ◌or◌
+returns-then-has_unmarked-2 c = rw (misroutes_at c.requires (the_group c.requires.formed c.capped-k.ensures c.of-rows.ensures), ← c.numbers-declared.ensures, ← c.numbers-routed.ensures) (search rules)
+
+pub returns-else-has_unmarked-2 : goal.returns-else-has_unmarked-2
+unfolding ◌or◌
+returns-else-has_unmarked-2 c = rw (misroutes_at c.requires (the_group c.requires.formed c.capped-k.ensures c.of-rows.ensures), ← c.numbers-declared.ensures, ← c.numbers-routed.ensures, ← c.numbers.ensures) (search rules)

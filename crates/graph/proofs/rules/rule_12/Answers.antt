@@ -1,7 +1,7 @@
-use Rattle.graph.specs.RulesLaws.{breaks}
-use Rattle.laws.specs.Bool.{when◌then◌else◌}
+use Rattle.std.proofs.Common.{rules}
+use Rattle.workflow.specs.View.{workflow}
+use Rattle.graph.specs.Rules.{breaks_12}
 use Rattle.graph.proofs.rules.rule_12.Goals as goal
 
 pub returns : goal.returns
-unfolding breaks when◌then◌else◌
-returns c = rw (c.rule_at.ensures, c.lowest_breaking.ensures)
+returns c = rw (c.rule_at.ensures, c.lowest_breaking.ensures (breaks_12 (workflow c.args.w.now)) (λ n rows b g k. search rules))

@@ -1,5 +1,4 @@
 use native.Mathlib.Omega.{arith}
-use Rattle.std.proofs.Common.{rules}
 use Rattle.host.specs.Layout.{answer_record}
 use Rattle.in_bytes.proofs.RunLaws.{run_few}
 use Rattle.in_bytes.proofs.AnswerLaws.{both_sizes, head_few, answer_bytes}
@@ -8,7 +7,8 @@ use Rattle.in_bytes.proofs.answer.answer_size.Goals as goal
 pub overflow_add-result : goal.overflow_add-result
 overflow_add-result c =
     let ns = c.args.xs.now in
-    omega (arith, c.run_size.ensures, c.head_size.ensures, head_few ns, run_few ns answer_record (search rules))
+    let long = c.told-xs in
+    omega (arith, rw c.run.ensures at c.run_size.ensures, c.head_size.ensures, head_few ns, run_few ns answer_record (omega arith))
 
 pub returns : goal.returns
-returns c = omega (arith, c.run_size.ensures, c.head_size.ensures, both_sizes (answer_bytes c.args.xs.now (search rules)))
+returns c = omega (arith, rw c.run.ensures at c.run_size.ensures, c.head_size.ensures, both_sizes (answer_bytes c.args.xs.now c.told-xs))

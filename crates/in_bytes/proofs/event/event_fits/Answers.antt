@@ -5,4 +5,4 @@ use Rattle.in_bytes.proofs.event.event_fits.Goals as goal
 
 pub returns : goal.returns
 unfolding tested event_call rows
-returns c = event_tested c.args.e.now c.requires
+returns c = event_tested c.args.e.now c.told-e

@@ -1,12 +1,11 @@
-use native.Mathlib.Omega.{arith}
-use Rattle.codec.specs.Stages.{total}
-use Rattle.in_bytes.proofs.SheetLaws.{tidy_columns}
-use Rattle.std.proofs.Common.{rules}
+use Rattle.codec.specs.Numbers.{part}
+use Rattle.in_bytes.proofs.SheetLaws.{sliced_room, tidy_columns}
 use Rattle.in_bytes.proofs.sheet.sheet_tidy.Goals as goal
 
 pub columns_tidy-requires : goal.columns_tidy-requires
-unfolding total
-columns_tidy-requires c = (omega (arith, c.requires), search rules)
+unfolding part
+columns_tidy-requires c = sliced_room c.args.w.now c.told-w c.plan.ensures
 
 pub returns : goal.returns
-returns c = rw c.columns_tidy.ensures (tidy_columns c.args.w.now c.requires c.used-used.ensures (λ n. omega (arith, c.type_inv.w n)))
+unfolding part
+returns c = rw c.columns_tidy.ensures (tidy_columns c.args.w.now c.told-w c.plan.ensures c.fits-w)
