@@ -1,9 +1,9 @@
 -- The run check by its parts, as the code tests them.
-use Rattle.std.specs.Prelude.{◌≡◌, refl, Bool, true, false, not, ◌&&◌, ◌||◌, List, [], ◌∷◌, ℕ, zero, suc, ◌≤◌, length, get_or, take, ltb, eqb, Option, Some, None}
+use Rattle.std.specs.Prelude.{◌≡◌, refl, Bool, true, false, not, ◌&&◌, ◌||◌, List, [], ◌∷◌, ℕ, zero, suc, length, get_or, take, ltb, eqb, Option, Some, None}
 use Rattle.std.specs.Option.{is_some}
 use mathlib.Core.Bool.{beq}
 use Rattle.std.proofs.Math.Path.{sym}
-use Rattle.std.proofs.Common.{◌∙◌, ap, arith, lt-ltb, le-ltb, take_all}
+use Rattle.std.proofs.Common.{◌∙◌, ap, arith, le-ltb, take_all}
 use Rattle.laws.specs.Bool.{when◌then◌else◌, ◌and◌, and_true}
 use Rattle.laws.specs.Rows.{span}
 use Rattle.laws.specs.Every.{every}
@@ -11,12 +11,11 @@ use Rattle.workflow.specs.Layout.{node_room}
 use Rattle.model.specs.Code.{waiting, stuck}
 use Rattle.workflow.specs.declared.Node.{Node}
 use Rattle.workflow.specs.View.{Workflow}
-use Rattle.snapshot.specs.Check.{slot_fits, slots_fit, keeps_error, waits, works, live_fits, counters_fit, stands, consistent}
+use Rattle.snapshot.specs.Check.{slot_fits, slots_fit, keeps_error, waits, works, counters_fit, stands, consistent}
 use Rattle.model.specs.Store.{leaves_over, store_fits}
 use Rattle.model.specs.Step.{no_mapping}
 use Rattle.snapshot.specs.EventCheck.{in_range}
 use Rattle.model.specs.declared.ErrorInfo.{ErrorInfo}
-use Rattle.model.specs.declared.Visits.{Visits}
 use Rattle.model.specs.declared.event.Mappings.{Mappings}
 use Rattle.model.specs.declared.State.{State}
 

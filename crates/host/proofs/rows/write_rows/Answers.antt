@@ -1,5 +1,5 @@
-use Rattle.std.proofs.Common.{arith, refl, length, ◌+◌, ◌*◌, ◌∙◌, ap}
-use Rattle.laws.specs.Splice.{splice, write_start, write_next, write_end}
+use Rattle.std.proofs.Common.{arith, length, ◌*◌, ◌∙◌, ap}
+use Rattle.laws.specs.Splice.{splice, write_start, write_next}
 use Rattle.host.proofs.WriteRowsLaws.{row_room, put_spliced}
 use Rattle.host.proofs.rows.write_rows.Goals as goal
 
