@@ -7,13 +7,13 @@ use borrow.Author.Tests.{lt-leb}
 use Rattle.std.proofs.Math.Dec.{leb}
 use Rattle.laws.specs.Bool.{when◌then◌else◌, split}
 use Rattle.workflow.specs.Code.{exhausted}
-use Rattle.model.specs.Code.{note_exhausted}
 use Rattle.workflow.specs.View.{Workflow}
 use Rattle.workflow.specs.Lookup.{node_slots, route_of, limit_of}
 use Rattle.model.specs.declared.Output.{Output}
 use Rattle.model.specs.declared.Position.{Position}
 use Rattle.model.specs.declared.Streak.{Streak}
 use Rattle.model.specs.declared.State.{State}
+use Rattle.model.specs.declared.answer.Noted.{Noted}
 use Rattle.model.specs.declared.answer.Ending.{Ending}
 use Rattle.model.specs.declared.route.Routing.{Routing}
 use Rattle.model.specs.declared.moves.Next.{Next}
@@ -22,7 +22,7 @@ use Rattle.model.specs.Step.{streak_count, noting, follow_to, route_limited, rou
 use Rattle.model.specs.RouteLaws.{exhausts, goes_on, routing_of, next_of, along, follow_on, stored_by, Makes, ends}
 
 module _ (f : Workflow) (s : State) (n o : ℕ) where
-  either_way : (b : Bool) (x : ℕ) (k : Streak) → (when b then noting note_exhausted n o x 0 (follow_to f (with_streak s n no_streak) n (route_of f n exhausted)) else follow_to f (with_streak s n k) n (route_of f n o)) ≡ along f s n (when b then exhausts n o x else goes_on o k)
+  either_way : (b : Bool) (x : ℕ) (k : Streak) → (when b then noting n (Noted.Exhausted o x) (follow_to f (with_streak s n no_streak) n (route_of f n exhausted)) else follow_to f (with_streak s n k) n (route_of f n o)) ≡ along f s n (when b then exhausts n o x else goes_on o k)
   unfolding when◌then◌else◌
   either_way true x k = rw (follow_on f (with_streak s n no_streak) n (route_of f n exhausted))
   either_way false x k = follow_on f (with_streak s n k) n (route_of f n o)

@@ -1,5 +1,6 @@
--- The numbers of a run record, an event and an answer in document 01, in one place.
+-- The numbers of a run record and an event in document 01, in one place; those of an answer stand in Answers.
 use Rattle.std.specs.Prelude.{ℕ, ◌-◌, ◌^◌}
+use Rattle.model.specs.declared.ErrorCode.{ErrorCode}
 
 -- The largest counter or time (in milliseconds).
 abbrev pub largest : ℕ
@@ -76,82 +77,10 @@ value = 1
 abbrev pub fault : ℕ
 fault = 2
 
--- The field of a want.
-abbrev pub field_input : ℕ
-field_input = 0
-
-abbrev pub field_params : ℕ
-field_params = 1
-
-abbrev pub field_output : ℕ
-field_output = 2
-
 -- The kernel's own error codes.
-abbrev pub visits_exceeded : ℕ
-visits_exceeded = 1
-
-abbrev pub activations_exceeded : ℕ
-activations_exceeded = 2
-
-abbrev pub undeclared_outcome : ℕ
-undeclared_outcome = 3
-
-abbrev pub attempts_exhausted : ℕ
-attempts_exhausted = 4
-
-abbrev pub activity_failed : ℕ
-activity_failed = 5
-
--- Notes.
-abbrev pub note_ignored : ℕ
-note_ignored = 1
-
-abbrev pub note_stale : ℕ
-note_stale = 2
-
-abbrev pub note_not_applicable : ℕ
-note_not_applicable = 3
-
-abbrev pub note_overflow : ℕ
-note_overflow = 4
-
-abbrev pub note_unrouted : ℕ
-note_unrouted = 5
-
-abbrev pub note_unknown : ℕ
-note_unknown = 6
-
-abbrev pub note_stuck : ℕ
-note_stuck = 7
-
-abbrev pub note_retry : ℕ
-note_retry = 8
-
-abbrev pub note_exhausted : ℕ
-note_exhausted = 9
-
--- Why a resolution does not apply.
-abbrev pub mismatch : ℕ
-mismatch = 1
-
-abbrev pub not_unknown : ℕ
-not_unknown = 2
-
-abbrev pub undeclared : ℕ
-undeclared = 3
-
--- How a signal ended.
-abbrev pub end_routed : ℕ
-end_routed = 1
-
-abbrev pub end_unrouted : ℕ
-end_unrouted = 2
-
-abbrev pub end_overflow : ℕ
-end_overflow = 3
-
-abbrev pub end_ignored : ℕ
-end_ignored = 4
-
-abbrev pub end_left_over : ℕ
-end_left_over = 5
+abbrev pub error_code : ErrorCode → ℕ
+error_code ErrorCode.VisitsExceeded = 1
+error_code ErrorCode.ActivationsExceeded = 2
+error_code ErrorCode.UndeclaredOutcome = 3
+error_code ErrorCode.AttemptsExhausted = 4
+error_code ErrorCode.ActivityFailed = 5

@@ -12,7 +12,9 @@ use Rattle.workflow.specs.Layout.{node_room}
 use Rattle.workflow.specs.View.{Workflow}
 use Rattle.workflow.specs.Lookup.{node_slots}
 use Rattle.workflow.specs.declared.refusal.Refusal.{Refusal}
-use Rattle.model.specs.Code.{field_params, visits_exceeded, activations_exceeded}
+use Rattle.model.specs.Code.{error_code}
+use Rattle.model.specs.declared.ErrorCode.{ErrorCode}
+use Rattle.model.specs.declared.answer.Field.{Field}
 use Rattle.model.specs.declared.Visits.{Visits}
 use Rattle.model.specs.declared.State.{State}
 use Rattle.model.specs.declared.event.Mappings.{Mappings}
@@ -94,7 +96,7 @@ no_destination (Refuse x) h = refl
 module _ (f : Workflow) where
   -- The params of an activity whose input is known.
   unfoldable pub enter_with_params : State → (node from : ℕ) → Mappings → (input : ℕ) → Move
-  enter_with_params s n b m x = evaluate f (answer m 1) s n field_params b 2 (λ p. reading 2 (schedule f s n x (Some p)))
+  enter_with_params s n b m x = evaluate f (answer m 1) s n Field.Params b 2 (λ p. reading 2 (schedule f s n x (Some p)))
 
   -- An answer e, read as a: its value is gone on with, or it halts; r is the move.
   module _ (e : Result ℕ NoValue) (s : State) (n i b j : ℕ) (k : ℕ → Move) {a : Result ℕ NoValue} {r : Move} (same : a ≡ e) where
@@ -153,12 +155,12 @@ module _ (f : Workflow) (s : State) (n b : ℕ) (m : Mappings) (e : Entry) {k v 
   strays h p g = passes s n e p (g ∙ sym (simp (← room, le-leb _ _ h)))
 
   module _ (known : n < k) where
-    pub exceeds_visits : f.max_visits_per_node ≤ v → e.entered ≡ false → made s e ≡ reading 0 (terminate f s (error visits_exceeded n 0)) → made (counted s n e) e ≡ enter f s n b m
+    pub exceeds_visits : f.max_visits_per_node ≤ v → e.entered ≡ false → made s e ≡ reading 0 (terminate f s (error (error_code ErrorCode.VisitsExceeded) n 0)) → made (counted s n e) e ≡ enter f s n b m
     unfolding enter when◌then◌else◌ terminate
     exceeds_visits h p g = passes s n e p (g ∙ sym (simp (← room, lt-leb _ _ known, given.shows.visits_are, le-leb _ _ h)))
 
     module _ (visits : v < f.max_visits_per_node) where
-      pub exceeds_activations : f.max_activations ≤ a → e.entered ≡ false → made s e ≡ reading 0 (terminate f s (error activations_exceeded n 0)) → made (counted s n e) e ≡ enter f s n b m
+      pub exceeds_activations : f.max_activations ≤ a → e.entered ≡ false → made s e ≡ reading 0 (terminate f s (error (error_code ErrorCode.ActivationsExceeded) n 0)) → made (counted s n e) e ≡ enter f s n b m
       unfolding enter when◌then◌else◌ terminate
       exceeds_activations h p g = passes s n e p (g ∙ sym (simp (← room, lt-leb _ _ known, given.shows.visits_are, lt-leb _ _ visits, given.activations_are, le-leb _ _ h)))
 

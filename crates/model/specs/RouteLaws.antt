@@ -9,7 +9,7 @@ use borrow.Author.Tests.{ltb-true, ltb-false, lt-ltb, le-ltb, le-leb}
 use Rattle.std.proofs.Math.Dec.{leb}
 use Rattle.laws.specs.Bool.{when◌then◌else◌, split}
 use Rattle.workflow.specs.Code.{exhausted}
-use Rattle.model.specs.Code.{store, largest, running, scheduled, largest_attempt, note_retry, note_exhausted, note_unrouted, end_routed, end_unrouted}
+use Rattle.model.specs.Code.{store, largest, running, scheduled, largest_attempt}
 use Rattle.workflow.specs.View.{Workflow}
 use Rattle.workflow.specs.Lookup.{node_slots, node_of, route_of}
 use Rattle.workflow.specs.declared.refusal.Refusal.{Refusal}
@@ -18,7 +18,9 @@ use Rattle.model.specs.declared.BufferedSignal.{BufferedSignal}
 use Rattle.model.specs.declared.Position.{Position}
 use Rattle.model.specs.declared.Streak.{Streak}
 use Rattle.model.specs.declared.State.{State}
+use Rattle.model.specs.declared.answer.Ended.{Ended}
 use Rattle.model.specs.declared.answer.Ending.{Ending}
+use Rattle.model.specs.declared.answer.Noted.{Noted}
 use Rattle.model.specs.declared.answer.Note.{Note}
 use Rattle.model.specs.declared.answer.Order.{Order}
 use Rattle.model.specs.declared.InvocationState.{InvocationState}
@@ -36,7 +38,7 @@ use Rattle.model.specs.Step.{planned, phased, retry, signal_outcome, streak_coun
 
 -- The outcome that is followed, the next streak and the note.
 abbrev pub exhausts : (node outcome limit : ℕ) → Routing
-exhausts n o x = record { streak = no_streak; outcome = exhausted; note = Some (record { code = note_exhausted; node = n; a = o; b = x; c = 0 }) }
+exhausts n o x = record { streak = no_streak; outcome = exhausted; note = Some (record { node = n; noted = Noted.Exhausted o x }) }
 
 abbrev pub goes_on : (outcome : ℕ) → Streak → Routing
 goes_on o k = record { streak = k; outcome = o; note = None }
@@ -94,12 +96,12 @@ module _ (f : Workflow) (p : Position) (k : Streak) (o : ℕ) (x : Output) (e : 
 
 -- A signal that is taken: o is its outcome, v the route of that.
 module _ (f : Workflow) (p : Position) (k : Streak) (x : BufferedSignal) (m : Next) {o : ℕ} {v : Option ℕ} {r : Routed} (outcome : o ≡ signal_outcome x.outcome) (found : v ≡ signal_route f p.node o) where
-  pub misses : v ≡ None → r ≡ unstored m (Some (record { code = note_unrouted; node = p.node; a = x.event_id; b = o; c = 0 })) (Some (record { sequence = x.sequence; ending = end_unrouted }))
+  pub misses : v ≡ None → r ≡ unstored m (Some (record { node = p.node; noted = Noted.Unrouted x.event_id o })) (Some (record { sequence = x.sequence; ending = Ended.Unrouted }))
       → Makes p k r (λ s. take f s x m)
   unfolding take_by
   misses z h = unstored_makes p k _ _ _ _ h (λ s a. rw a (simp (← outcome, ← found, z)))
 
-  pub takes : {t : ℕ} → v ≡ Some t → Makes p k r (λ s. ends (Some (record { sequence = x.sequence; ending = end_routed })) (route f s o (Output.Handle x.«data»))) → Makes p k r (λ s. take f s x m)
+  pub takes : {t : ℕ} → v ≡ Some t → Makes p k r (λ s. ends (Some (record { sequence = x.sequence; ending = Ended.Routed })) (route f s o (Output.Handle x.«data»))) → Makes p k r (λ s. take f s x m)
   unfolding take_by
   takes z h = record { inside = h.inside; of_record = λ s a b. h.of_record s a b ∙ sym (simp (a, ← outcome, ← found, z)) }
 
@@ -229,7 +231,7 @@ module _ (f : Workflow) (p : Position) (v : InvocationState) (last delay : ℕ) 
   pub tries : b ≡ false → v.attempt < largest_attempt
       → r ≡ Some (record {
         invocation = phased v scheduled (v.attempt + 1) None;
-        note = record { code = note_retry; node = p.node; a = v.attempt + 1; b = 0; c = 0 };
+        note = record { node = p.node; noted = Noted.Retry (v.attempt + 1) };
         order = Order.Retry (record { not_before = planned f last delay; node = v.node; visit = v.visit; attempt = v.attempt + 1 });
       })
       → Tries p v last r (λ s. retry f s delay)

@@ -2,10 +2,11 @@
 use Rattle.std.specs.Prelude.{ℕ, Option, Some, None, Result, Ok, Err, ◌+◌, get_or, ltb, leb, eqb}
 use Rattle.laws.specs.Bool.{when◌then◌else◌, ◌and◌}
 use Rattle.workflow.specs.Code.{none, received, exhausted, activity, await_signal, complete}
-use Rattle.model.specs.Code.{largest, largest_attempt, running, waiting, run_completed, run_failed, scheduled, value, fault, field_input, field_params, field_output, visits_exceeded, activations_exceeded, note_unrouted, note_retry, note_exhausted, end_routed, end_unrouted}
+use Rattle.model.specs.Code.{largest, largest_attempt, running, waiting, run_completed, run_failed, scheduled, value, fault, error_code}
 use Rattle.workflow.specs.View.{Workflow}
 use Rattle.workflow.specs.Lookup.{is_0_2, node_slots, node_of, route_of, limit_of}
 use Rattle.workflow.specs.declared.refusal.Refusal.{Refusal}
+use Rattle.model.specs.declared.ErrorCode.{ErrorCode}
 use Rattle.model.specs.declared.ErrorInfo.{ErrorInfo}
 use Rattle.model.specs.declared.Output.{Output}
 use Rattle.model.specs.declared.BufferedSignal.{BufferedSignal}
@@ -19,43 +20,39 @@ use Rattle.model.specs.declared.event.Mappings.{Mappings}
 use Rattle.model.specs.declared.event.NoValue.{NoValue}
 use Rattle.model.specs.declared.event.NoValue.TheVariants.{Fault, Unencodable, Lacking}
 use Rattle.model.specs.declared.answer.Order.{Order}
+use Rattle.model.specs.declared.answer.Noted.{Noted}
 use Rattle.model.specs.declared.answer.Note.{Note}
+use Rattle.model.specs.declared.answer.Ended.{Ended}
 use Rattle.model.specs.declared.answer.Ending.{Ending}
+use Rattle.model.specs.declared.answer.Field.{Field}
 use Rattle.model.specs.declared.moves.Next.{Next}
 use Rattle.model.specs.declared.moves.Next.TheVariants.{Rest, Enter, Consume, Wants, Refuse}
 use Rattle.model.specs.declared.moves.Move.{Move}
 use Rattle.model.specs.Record.{no_streak, no_invocation, visits_of, streak_of, with_visits, with_streak, with_result, placed, finished}
-
--- What fills up a list of notes, and one of endings.
-abbrev pub no_note : Note
-no_note = record { code = 0; node = 0; a = 0; b = 0; c = 0 }
-
-abbrev pub no_ending : Ending
-no_ending = record { sequence = 0; ending = 0 }
 
 -- WHAT A MOVE SAYS.
 -- nothing but the record and what comes next
 abbrev pub still : State → Next → Move
 still state next = record { state = state; next = next; note = None; ending = None; order = None; read = 0 }
 
-abbrev pub noting : (code node a b c : ℕ) → Move → Move
-noting code node a b c move =
+abbrev pub noting : (node : ℕ) → Noted → Move → Move
+noting node noted move =
     record {
       state = move.state;
       next = move.next;
-      note = Some (record { code = code; node = node; a = a; b = b; c = c });
+      note = Some (record { node = node; noted = noted });
       ending = move.ending;
       order = move.order;
       read = move.read;
     }
 
-abbrev pub ending : (sequence ending : ℕ) → Move → Move
-ending sequence kind move =
+abbrev pub ending : (sequence : ℕ) → Ended → Move → Move
+ending sequence how move =
     record {
       state = move.state;
       next = move.next;
       note = move.note;
-      ending = Some (record { sequence = sequence; ending = kind });
+      ending = Some (record { sequence = sequence; ending = how });
       order = move.order;
       read = move.read;
     }
@@ -135,13 +132,13 @@ module _ (sheet : Workflow) where
   terminate state why = still (finished state run_failed (record { output = Output.Error why })) Rest
 
   -- What follows a mapping that has no value: a fault fails the run at that node, else the call goes no further.
-  unfoldable pub without_value : NoValue → State → (node field from read : ℕ) → Move
+  unfoldable pub without_value : NoValue → State → (node : ℕ) → Field → (from read : ℕ) → Move
   without_value (Fault code detail) state node field from read = reading read (terminate state (error code node detail))
   without_value Unencodable state node field from read = still state (Refuse Refusal.Unencodable)
   without_value Lacking state node field from read = still state (Wants node field from)
 
   -- A mapping is evaluated, the read-th answer that is read; `go_on` is what follows a value.
-  unfoldable pub evaluate : Result ℕ NoValue → State → (node field from read : ℕ) → (ℕ → Move) → Move
+  unfoldable pub evaluate : Result ℕ NoValue → State → (node : ℕ) → Field → (from read : ℕ) → (ℕ → Move) → Move
   evaluate (Ok handle) state node field from read go_on = go_on handle
   evaluate (Err why) state node field from read go_on = without_value why state node field from read
 
@@ -177,9 +174,9 @@ module _ (sheet : Workflow) where
   -- An activity needs its input, then its params if any.
   unfoldable pub enter_activity : State → (node from : ℕ) → Mappings → Move
   enter_activity state node from mappings =
-      evaluate (answer mappings 0) state node field_input from 1 (λ input.
+      evaluate (answer mappings 0) state node Field.Input from 1 (λ input.
       when eqb (node_of sheet node).has_params 1
-      then evaluate (answer mappings 1) state node field_params from 2 (λ params. reading 2 (schedule state node input (Some params)))
+      then evaluate (answer mappings 1) state node Field.Params from 2 (λ params. reading 2 (schedule state node input (Some params)))
       else reading 1 (schedule state node input None))
 
   -- An await-signal node waits there, and looks at the store.
@@ -189,7 +186,7 @@ module _ (sheet : Workflow) where
   -- A complete node needs its output.
   unfoldable pub enter_complete : State → (node from : ℕ) → Mappings → Move
   enter_complete state node from mappings =
-      evaluate (answer mappings 0) state node field_output from 1 (λ output.
+      evaluate (answer mappings 0) state node Field.Output from 1 (λ output.
       reading 1 (still (finished state run_completed (record { output = Output.Handle output })) Rest))
 
   -- The node that was entered, by its kind.
@@ -208,8 +205,8 @@ module _ (sheet : Workflow) where
   unfoldable pub enter : State → (node from : ℕ) → Mappings → Move
   enter state node from mappings =
       when leb (node_slots sheet) node then astray state else
-      when leb sheet.max_visits_per_node (visits_of state node).count then terminate state (error visits_exceeded node 0) else
-      when leb sheet.max_activations state.activations then terminate state (error activations_exceeded node 0) else
+      when leb sheet.max_visits_per_node (visits_of state node).count then terminate state (error (error_code ErrorCode.VisitsExceeded) node 0) else
+      when leb sheet.max_activations state.activations then terminate state (error (error_code ErrorCode.ActivationsExceeded) node 0) else
       arrive (one_more_visit state node) node from mappings
 
   -- The outcome's route is followed. An accepted sheet routes what comes here.
@@ -225,7 +222,7 @@ module _ (sheet : Workflow) where
   route_limited state node outcome None = follow (with_streak state node no_streak) node outcome
   route_limited state node outcome (Some limit) =
       when leb limit (streak_count (streak_of state node) outcome)
-      then noting note_exhausted node outcome limit 0 (follow (with_streak state node no_streak) node exhausted)
+      then noting node (Noted.Exhausted outcome limit) (follow (with_streak state node no_streak) node exhausted)
       else follow (with_streak state node (record { outcome = outcome; count = streak_count (streak_of state node) outcome + 1 })) node outcome
 
   -- Routing stores the result with the reported outcome.
@@ -242,10 +239,10 @@ module _ (sheet : Workflow) where
   -- A signal is taken where the run waits: it routes and ends there; without a routed outcome it ends there too, the run goes on waiting, and what comes after is missed.
   unfoldable pub take_by : Option ℕ → State → BufferedSignal → (missed : Next) → Move
   take_by None state signal missed =
-      ending signal.sequence end_unrouted
-      (noting note_unrouted state.position.node signal.event_id (signal_outcome signal.outcome) 0 (still state missed))
+      ending signal.sequence Ended.Unrouted
+      (noting state.position.node (Noted.Unrouted signal.event_id (signal_outcome signal.outcome)) (still state missed))
   take_by (Some target) state signal missed =
-      ending signal.sequence end_routed (route state (signal_outcome signal.outcome) (Output.Handle signal.«data»))
+      ending signal.sequence Ended.Routed (route state (signal_outcome signal.outcome) (Output.Handle signal.«data»))
 
   abbrev pub take : State → BufferedSignal → (missed : Next) → Move
   take state signal missed = take_by (signal_route state.position.node (signal_outcome signal.outcome)) state signal missed
@@ -256,7 +253,7 @@ module _ (sheet : Workflow) where
       let invocation = state.invocation in
       when ltb largest (planned sheet state.last_accepted_at delay) then still state (Refuse Refusal.NoRetry) else
       when ltb largest_attempt (invocation.attempt + 1) then still state (Refuse Refusal.NoRetry) else
-      noting note_retry state.position.node (invocation.attempt + 1) 0 0
+      noting state.position.node (Noted.Retry (invocation.attempt + 1))
       (ordering
       (Order.Retry
       (record {

@@ -4,10 +4,11 @@ use Rattle.laws.specs.Bool.{when◌then◌else◌, ◌and◌}
 use Rattle.laws.specs.First.{first}
 use Rattle.laws.specs.Every.{every}
 use Rattle.laws.specs.Shift.{without}
-use Rattle.model.specs.Code.{store, largest, end_left_over}
+use Rattle.model.specs.Code.{store, largest}
 use Rattle.model.specs.Record.{no_signal, is_terminal, set_signals}
 use Rattle.model.specs.declared.BufferedSignal.{BufferedSignal}
 use Rattle.model.specs.declared.State.{State}
+use Rattle.model.specs.declared.answer.Ended.{Ended}
 use Rattle.model.specs.declared.answer.Ending.{Ending}
 
 -- The store as a list.
@@ -43,7 +44,7 @@ unfoldable pub leaves_over : (status stored : ℕ) → Bool
 leaves_over status stored = is_terminal status and ltb 0 stored
 
 unfoldable pub left_over : List BufferedSignal → List Ending
-left_over signals = map (λ signal. record { sequence = signal.sequence; ending = end_left_over }) signals
+left_over signals = map (λ signal. record { sequence = signal.sequence; ending = Ended.LeftOver }) signals
 
 unfoldable pub emptied : State → State
 emptied state = set_signals state (replicate store no_signal) 0

@@ -1,10 +1,10 @@
 // What a call hands back.
 ghost use Rattle.std.specs.Prelude.{◌≡◌};
-ghost use Rattle.model.specs.Answers.{params_numbers, order_numbers, answer_numbers};
+ghost use Rattle.model.specs.Answers.{params_numbers, order_numbers, note_numbers, ending_numbers, answer_numbers};
 
 use workflow::refusal::Refusal;
 
-#[derive(Clone, Copy)]
+#[derive(Clone, Copy, Debug, PartialEq, Eq)]
 pub struct ScheduleActivity {
     pub not_before: u64,
     pub node: u32,
@@ -16,7 +16,7 @@ pub struct ScheduleActivity {
     pub params: Option<u32>,
 }
 
-#[derive(Clone, Copy)]
+#[derive(Clone, Copy, Debug, PartialEq, Eq)]
 pub struct RetryActivity {
     pub not_before: u64,
     pub node: u32,
@@ -25,30 +25,77 @@ pub struct RetryActivity {
 }
 
 // The command of a call.
-#[derive(Clone, Copy)]
+#[derive(Clone, Copy, Debug, PartialEq, Eq)]
 pub enum Order {
     Schedule(ScheduleActivity),
     Retry(RetryActivity),
 }
 
-#[derive(Clone, Copy)]
-pub struct Note {
-    pub code: u32,
-    pub node: u32,
-    pub a: u32,
-    pub b: u32,
-    pub c: u32,
+// Why a resolution doesn't apply.
+#[derive(Clone, Copy, Debug, PartialEq, Eq)]
+pub enum Reason {
+    Mismatch = 1,
+    NotUnknown = 2,
+    Undeclared = 3,
 }
 
-// How a signal, known by its sequence number, ended: 1 routed, 2 unrouted, 3 overflow, 4 ignored, 5 left over.
-#[derive(Clone, Copy)]
+// What is noted, with its values.
+#[derive(Clone, Copy, Debug, PartialEq, Eq)]
+pub enum Noted {
+    // 1: an event of that kind, since the run has ended
+    Ignored { kind: u32 },
+    // 2: a result that names that node, visit and attempt
+    Stale { node: u32, visit: u32, attempt: u32 },
+    // 3: a resolution that names that node and visit
+    NotApplicable { node: u32, visit: u32, reason: Reason },
+    // 4: one signal too many
+    Overflow { event_id: u32 },
+    // 5: a signal whose outcome isn't routed
+    Unrouted { event_id: u32, outcome: u32 },
+    // 6: an invocation that a result with that status parks
+    Unknown { visit: u32, attempt: u32, status: u32 },
+    // 7: an invocation that failed with that error
+    Stuck { visit: u32, attempt: u32, code: u32 },
+    // 8: the next attempt
+    Retry { attempt: u32 },
+    // 9: a loop at its limit
+    Exhausted { outcome: u32, limit: u32 },
+}
+
+// A note, at a node or at none.
+#[derive(Clone, Copy, Debug, PartialEq, Eq)]
+pub struct Note {
+    pub node: u32,
+    pub noted: Noted,
+}
+
+// How a signal ended.
+#[derive(Clone, Copy, Debug, PartialEq, Eq)]
+pub enum Ended {
+    Routed = 1,
+    Unrouted = 2,
+    Overflow = 3,
+    Ignored = 4,
+    LeftOver = 5,
+}
+
+// The ending of a signal, which its sequence number says.
+#[derive(Clone, Copy, Debug, PartialEq, Eq)]
 pub struct Ending {
     pub sequence: u64,
-    pub ending: u32,
+    pub ending: Ended,
+}
+
+// The mapping that a want is of.
+#[derive(Clone, Copy, Debug, PartialEq, Eq)]
+pub enum Field {
+    Input = 0,
+    Params = 1,
+    Output = 2,
 }
 
 // One of three: a next record with its order and microsteps; a want of one mapping value; a refusal.
-#[derive(Clone, Copy)]
+#[derive(Clone, Copy, Debug, PartialEq, Eq)]
 pub enum Answer {
     Next {
         order: Option<Order>,
@@ -56,7 +103,7 @@ pub enum Answer {
     },
     Wants {
         node: u32,
-        field: u32,
+        field: Field,
         from: u32,
     },
     Refused {
@@ -119,6 +166,71 @@ pub fn order_numbers(order: Option<Order>) -> [u64; 9]
     }
 }
 
+impl Note {
+    pub fn numbers(self) -> [u64; 5]
+        ensures { result ≡ note_numbers self }
+    {
+        let at = u64::from(self.node);
+        match self.noted {
+            Noted::Ignored { kind } => [1, at, u64::from(kind), 0, 0],
+            Noted::Stale {
+                node,
+                visit,
+                attempt,
+            } => [
+                2,
+                at,
+                u64::from(node),
+                u64::from(visit),
+                u64::from(attempt),
+            ],
+            Noted::NotApplicable {
+                node,
+                visit,
+                reason,
+            } => [3, at, u64::from(node), u64::from(visit), reason as u64],
+            Noted::Overflow { event_id } => [4, at, u64::from(event_id), 0, 0],
+            Noted::Unrouted { event_id, outcome } => {
+                [5, at, u64::from(event_id), u64::from(outcome), 0]
+            }
+            Noted::Unknown {
+                visit,
+                attempt,
+                status,
+            } => [
+                6,
+                at,
+                u64::from(visit),
+                u64::from(attempt),
+                u64::from(status),
+            ],
+            Noted::Stuck {
+                visit,
+                attempt,
+                code,
+            } => [
+                7,
+                at,
+                u64::from(visit),
+                u64::from(attempt),
+                u64::from(code),
+            ],
+            Noted::Retry { attempt } => [8, at, u64::from(attempt), 0, 0],
+            Noted::Exhausted { outcome, limit } => {
+                [9, at, u64::from(outcome), u64::from(limit), 0]
+            }
+        }
+    }
+}
+
+impl Ending {
+    pub fn numbers(self) -> [u64; 2]
+        ensures { result ≡ ending_numbers self }
+    {
+        [self.sequence, self.ending as u64]
+    }
+}
+
 impl Answer {
     pub fn numbers(self) -> [u64; 11]
         ensures { result ≡ answer_numbers self }
@@ -143,7 +255,7 @@ impl Answer {
             Answer::Wants { node, field, from } => [
                 2,
                 u64::from(node),
-                u64::from(field),
+                field as u64,
                 u64::from(from),
                 0,
                 0,

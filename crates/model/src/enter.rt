@@ -5,11 +5,11 @@ ghost use Rattle.model.specs.Record.{visits_of, finished};
 ghost use Rattle.model.specs.Step.{still, reading, error, answer, terminate, without_value, schedule, enter_activity, enter_await, enter_complete, arrive, enter};
 ghost use Rattle.model.specs.EnterLaws.{enter_with_params, settled, made, Shows, counted, Uncounted, Room, destination, entering};
 
-use crate::answer::{Order, ScheduleActivity};
+use crate::answer::{Field, Order, ScheduleActivity};
 use crate::event::{Mappings, NoValue};
 use crate::moves::{Move, Next, still};
 use crate::time::planned;
-use crate::{ErrorInfo, InvocationState, Output, Position, RunResult, State, Visits, code};
+use crate::{ErrorCode, ErrorInfo, InvocationState, Output, Position, RunResult, State, Visits, code};
 use workflow::code as sheet;
 use workflow::layout::{NODES, NUMBERS};
 use workflow::refusal::Refusal;
@@ -114,7 +114,7 @@ fn failing(entered: bool, code: u32, node: u32, detail: u32, read: u32) -> Entry
 }
 
 // A mapping that has no value: a fault fails the run at that node, else the call goes no further.
-fn halting(why: NoValue, node: u32, field: u32, from: u32, read: u32) -> Entry
+fn halting(why: NoValue, node: u32, field: Field, from: u32, read: u32) -> Entry
     ensures result_value { (f : Workflow) (s : State) → made s result ≡ without_value f why s node field from read }
     ensures entered_value { result.entered ≡ true }
 {
@@ -181,7 +181,7 @@ impl Entering {
     {
         match self.mappings.answer(1) {
             Ok(params) => self.scheduling(w, input, Some(params), 2),
-            Err(why) => halting(why, self.node, code::FIELD_PARAMS, self.from, 2),
+            Err(why) => halting(why, self.node, Field::Params, self.from, 2),
         }
     }
 
@@ -198,7 +198,7 @@ impl Entering {
                 }
                 self.scheduling(w, input, None, 1)
             }
-            Err(why) => halting(why, self.node, code::FIELD_INPUT, self.from, 1),
+            Err(why) => halting(why, self.node, Field::Input, self.from, 1),
         }
     }
 
@@ -209,7 +209,7 @@ impl Entering {
     {
         match self.mappings.answer(0) {
             Ok(output) => finishing(true, code::RUN_COMPLETED, Output::Handle(output), 1),
-            Err(why) => halting(why, self.node, code::FIELD_OUTPUT, self.from, 1),
+            Err(why) => halting(why, self.node, Field::Output, self.from, 1),
         }
     }
 
@@ -264,10 +264,10 @@ fn entry_of(
         return staying(false, Next::Refuse(Refusal::Invariant));
     }
     if w[workflow::layout::MAX_VISITS_PER_NODE] <= visits {
-        return failing(false, code::VISITS_EXCEEDED, node, 0, 0);
+        return failing(false, ErrorCode::VisitsExceeded.number(), node, 0, 0);
     }
     if w[workflow::layout::MAX_ACTIVATIONS] <= activations {
-        return failing(false, code::ACTIVATIONS_EXCEEDED, node, 0, 0);
+        return failing(false, ErrorCode::ActivationsExceeded.number(), node, 0, 0);
     }
     let entering = Entering {
         node,

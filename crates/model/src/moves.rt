@@ -1,13 +1,13 @@
 // What one move of a call hands back.
 ghost use Rattle.std.specs.Prelude.{◌≡◌};
-ghost use Rattle.model.specs.Step.{no_note, no_ending, still};
+ghost use Rattle.model.specs.Step.{still};
 
 use crate::State;
-use crate::answer::{Ending, Note, Order};
+use crate::answer::{Ending, Field, Note, Order};
 use workflow::refusal::Refusal;
 
 // What comes after a move.
-#[derive(Clone, Copy)]
+#[derive(Clone, Copy, Debug, PartialEq, Eq)]
 pub enum Next {
     // nothing: the moves of this call are over
     Rest,
@@ -18,13 +18,13 @@ pub enum Next {
     // the await-signal node that was entered consumes the store
     Consume,
     // a mapping value is lacking
-    Wants { node: u32, field: u32, from: u32 },
+    Wants { node: u32, field: Field, from: u32 },
     // the call is refused
     Refuse(Refusal),
 }
 
 // The next record and what comes after, with at most one note, one ending and one order, and how many mapping answers were read.
-#[derive(Clone, Copy)]
+#[derive(Clone, Copy, Debug, PartialEq, Eq)]
 pub struct Move {
     pub state: State,
     pub next: Next,
@@ -32,29 +32,6 @@ pub struct Move {
     pub ending: Option<Ending>,
     pub order: Option<Order>,
     pub read: u32,
-}
-
-// What fills up a list of notes.
-pub fn no_note() -> Note
-    ensures { result ≡ no_note }
-{
-    Note {
-        code: 0,
-        node: 0,
-        a: 0,
-        b: 0,
-        c: 0,
-    }
-}
-
-// What fills up a list of endings.
-pub fn no_ending() -> Ending
-    ensures { result ≡ no_ending }
-{
-    Ending {
-        sequence: 0,
-        ending: 0,
-    }
 }
 
 // Nothing but the record and what comes next.

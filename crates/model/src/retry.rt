@@ -5,7 +5,7 @@ ghost use Rattle.model.specs.Code.{largest};
 ghost use Rattle.model.specs.Step.{planned, retry};
 ghost use Rattle.model.specs.RouteLaws.{Tries};
 
-use crate::answer::{Note, Order, RetryActivity};
+use crate::answer::{Note, Noted, Order, RetryActivity};
 use crate::moves::{Move, Next, still};
 use crate::time::planned;
 use crate::{InvocationState, Position, State, code};
@@ -49,11 +49,8 @@ fn attempt_after(
             ..old
         },
         note: Note {
-            code: code::NOTE_RETRY,
             node: position.node,
-            a: attempt,
-            b: 0,
-            c: 0,
+            noted: Noted::Retry { attempt },
         },
         order: Order::Retry(RetryActivity {
             not_before: planned(w, last_accepted_at, delay),

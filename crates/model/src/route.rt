@@ -8,9 +8,9 @@ ghost use Rattle.model.specs.declared.route.Stored.{Stored};
 ghost use Rattle.model.specs.Step.{streak_count, signal_outcome, signal_route, route, take};
 ghost use Rattle.model.specs.RouteLaws.{routing_of, next_of, stored_by, unstored, Makes, ends, taken_by, taking};
 
-use crate::answer::{Ending, Note};
+use crate::answer::{Ended, Ending, Note, Noted};
 use crate::moves::{Move, Next};
-use crate::{BufferedSignal, NodeResult, Output, Position, State, Streak, code};
+use crate::{BufferedSignal, NodeResult, Output, Position, State, Streak};
 use workflow::code as sheet;
 use workflow::layout::{NODES, NUMBERS};
 use workflow::refusal::Refusal;
@@ -50,11 +50,11 @@ fn routing_of(limit: Option<u32>, streak: Streak, node: u32, outcome: u32) -> Ro
             streak: Streak::none(),
             outcome: sheet::EXHAUSTED,
             note: Some(Note {
-                code: code::NOTE_EXHAUSTED,
                 node,
-                a: outcome,
-                b: most,
-                c: 0,
+                noted: Noted::Exhausted {
+                    outcome,
+                    limit: most,
+                },
             }),
         };
     }
@@ -182,21 +182,21 @@ fn taken(
     let outcome = signal_outcome(signal.outcome);
     let Some(_) = signal_route(w, position.node, outcome) else {
         let note = Note {
-            code: code::NOTE_UNROUTED,
             node: position.node,
-            a: signal.event_id,
-            b: outcome,
-            c: 0,
+            noted: Noted::Unrouted {
+                event_id: signal.event_id,
+                outcome,
+            },
         };
         let ending = Ending {
             sequence: signal.sequence,
-            ending: code::END_UNROUTED,
+            ending: Ended::Unrouted,
         };
         return unstored(missed, Some(note), Some(ending));
     };
     let ending = Ending {
         sequence: signal.sequence,
-        ending: code::END_ROUTED,
+        ending: Ended::Routed,
     };
     routed_from(
         w,
