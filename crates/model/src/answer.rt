@@ -1,6 +1,6 @@
 // What a call hands back.
 ghost use Rattle.std.specs.Prelude.{◌≡◌};
-ghost use Rattle.model.specs.Answers.{params_numbers, order_numbers, note_numbers, ending_numbers, answer_numbers};
+ghost use Rattle.model.specs.Answers.{params_numbers, order_numbers, reason_number, note_numbers, ended_number, ending_numbers, field_number, answer_numbers};
 
 use workflow::refusal::Refusal;
 
@@ -166,6 +166,30 @@ pub fn order_numbers(order: Option<Order>) -> [u64; 9]
     }
 }
 
+impl Reason {
+    pub fn number(self) -> u32
+        ensures { result ≡ reason_number self }
+    {
+        self as u32
+    }
+}
+
+impl Ended {
+    pub fn number(self) -> u32
+        ensures { result ≡ ended_number self }
+    {
+        self as u32
+    }
+}
+
+impl Field {
+    pub fn number(self) -> u32
+        ensures { result ≡ field_number self }
+    {
+        self as u32
+    }
+}
+
 impl Note {
     pub fn numbers(self) -> [u64; 5]
         ensures { result ≡ note_numbers self }
@@ -188,7 +212,7 @@ impl Note {
                 node,
                 visit,
                 reason,
-            } => [3, at, u64::from(node), u64::from(visit), reason as u64],
+            } => [3, at, u64::from(node), u64::from(visit), u64::from(reason.number())],
             Noted::Overflow { event_id } => [4, at, u64::from(event_id), 0, 0],
             Noted::Unrouted { event_id, outcome } => {
                 [5, at, u64::from(event_id), u64::from(outcome), 0]
@@ -227,7 +251,7 @@ impl Ending {
     pub fn numbers(self) -> [u64; 2]
         ensures { result ≡ ending_numbers self }
     {
-        [self.sequence, self.ending as u64]
+        [self.sequence, u64::from(self.ending.number())]
     }
 }
 
@@ -255,7 +279,7 @@ impl Answer {
             Answer::Wants { node, field, from } => [
                 2,
                 u64::from(node),
-                field as u64,
+                u64::from(field.number()),
                 u64::from(from),
                 0,
                 0,

@@ -15,8 +15,8 @@ returns-in-Next c =
 
 pub returns-in-Wants : goal.returns-in-Wants
 unfolding answer_numbers
-returns-in-Wants c = rw c.in-Wants.is cc
+returns-in-Wants c = rw (c.in-Wants.is, c.from-in-Wants.ensures, c.from-in-Wants-2.ensures, c.from-in-Wants-3.ensures, c.number.ensures)
 
 pub returns-in-Refused : goal.returns-in-Refused
 unfolding answer_numbers
-returns-in-Refused c = rw (c.in-Refused.is, c.from-in-Refused.ensures, c.from-in-Refused-2.ensures, c.number.ensures)
+returns-in-Refused c = rw (c.in-Refused.is, c.from-in-Refused.ensures, c.from-in-Refused-2.ensures, c.number-in-Refused.ensures)
