@@ -4,12 +4,16 @@ use Rattle.laws.specs.Bool.{when◌then◌else◌, ◌and◌}
 use Rattle.workflow.specs.Code.{none, ok, failed, repeatable}
 use Rattle.workflow.specs.View.{Workflow}
 use Rattle.workflow.specs.Lookup.{is_0_2, node_of, policy_of, routed, declares}
-use Rattle.model.specs.Code.{store, waiting, needs_intervention, scheduled, unknown, stuck, run_started, signal_received, activity_result, invocation_resolved, success, failure, resolve_complete, resolve_retry, undeclared_outcome, attempts_exhausted, activity_failed, note_ignored, note_stale, note_not_applicable, note_overflow, note_unknown, note_stuck, mismatch, not_unknown, undeclared, end_overflow, end_ignored}
+use Rattle.model.specs.Code.{store, waiting, needs_intervention, scheduled, unknown, stuck, run_started, signal_received, activity_result, invocation_resolved, success, failure, resolve_complete, resolve_retry, error_code}
+use Rattle.model.specs.declared.ErrorCode.{ErrorCode}
 use Rattle.model.specs.declared.ErrorInfo.{ErrorInfo}
 use Rattle.model.specs.declared.Output.{Output}
 use Rattle.model.specs.declared.InvocationState.{InvocationState}
 use Rattle.model.specs.declared.State.{State}
 use Rattle.model.specs.declared.event.Event.{Event}
+use Rattle.model.specs.declared.answer.Reason.{Reason}
+use Rattle.model.specs.declared.answer.Noted.{Noted}
+use Rattle.model.specs.declared.answer.Ended.{Ended}
 use Rattle.model.specs.declared.moves.Next.TheVariants.{Rest, Enter, Take}
 use Rattle.model.specs.declared.moves.Move.{Move}
 use Rattle.model.specs.Record.{no_invocation, is_terminal, seen, placed}
@@ -34,21 +38,21 @@ unfoldable pub applies : InvocationState → Event → Bool
 applies invocation event = named invocation event and eqb invocation.attempt event.attempt and eqb invocation.phase scheduled
 
 -- A resolution that doesn't apply is noted with the reason.
-unfoldable pub not_applicable : State → Event → (reason : ℕ) → Move
-not_applicable state event reason = noting note_not_applicable (named_node state.invocation event) event.node event.visit reason (still state Rest)
+unfoldable pub not_applicable : State → Event → Reason → Move
+not_applicable state event reason = noting (named_node state.invocation event) (Noted.NotApplicable event.node event.visit reason) (still state Rest)
 
 -- A stuck step keeps its error and waits for a person.
 unfoldable pub stick : State → ErrorInfo → Move
 stick state why =
     let invocation = state.invocation in
-    noting note_stuck state.position.node invocation.visit invocation.attempt why.code
+    noting state.position.node (Noted.Stuck invocation.visit invocation.attempt why.code)
     (still (placed state needs_intervention state.position (phased invocation stuck invocation.attempt (Some why))) Rest)
 
 -- An ended run only notes the event.
 unfoldable pub on_ended : State → Event → Move
 on_ended state event =
-    let ignored = noting note_ignored none event.kind 0 0 (still state Rest) in
-    when eqb event.kind signal_received then ending event.sequence end_ignored ignored else ignored
+    let ignored = noting none (Noted.Ignored event.kind) (still state Rest) in
+    when eqb event.kind signal_received then ending event.sequence Ended.Ignored ignored else ignored
 
 -- THE RULES, for one sheet.
 module _ (sheet : Workflow) where
@@ -81,21 +85,21 @@ module _ (sheet : Workflow) where
   unfoldable pub on_signal : State → Event → Move
   on_signal state event =
       when eqb state.status waiting and eqb (node_of sheet state.position.node).signal event.signal then still state Take else
-      when leb store state.signal_count then ending event.sequence end_overflow (noting note_overflow none event.event_id 0 0 (still state Rest)) else
+      when leb store state.signal_count then ending event.sequence Ended.Overflow (noting none (Noted.Overflow event.event_id) (still state Rest)) else
       still (appended state (arrival event)) Rest
 
   unfoldable pub on_success : State → Event → Move
   on_success state event =
       let outcome = success_outcome event.outcome in
       when declares sheet (action_at state) outcome then complete_invocation state outcome (Output.Handle event.output) else
-      fail_invocation state undeclared_outcome outcome true
+      fail_invocation state (error_code ErrorCode.UndeclaredOutcome) outcome true
 
   -- After a failure a retry also needs retryable.
   unfoldable pub on_failure : State → Event → Move
   on_failure state event =
       when event.retryable and may_retry state event then retry sheet state (delay_of (action_at state) event) else
       when event.has_error then fail_invocation state event.code event.detail true else
-      fail_invocation state activity_failed 0 true
+      fail_invocation state (error_code ErrorCode.ActivityFailed) 0 true
 
   -- Unknown or expired on effect 1 parks the run.
   unfoldable pub on_unknown : State → Event → Move
@@ -103,16 +107,16 @@ module _ (sheet : Workflow) where
       let invocation = state.invocation in
       when not (eqb (policy_of sheet (action_at state)).effect repeatable)
       then
-      noting note_unknown state.position.node invocation.visit invocation.attempt event.status
+      noting state.position.node (Noted.Unknown invocation.visit invocation.attempt event.status)
       (still (placed state needs_intervention state.position (phased invocation unknown invocation.attempt None)) Rest)
       else
       when may_retry state event then retry sheet state (delay_of (action_at state) event) else
-      fail_invocation state attempts_exhausted event.status true
+      fail_invocation state (error_code ErrorCode.AttemptsExhausted) event.status true
 
   unfoldable pub on_result : State → Event → Move
   on_result state event =
       when not (applies state.invocation event)
-      then noting note_stale (named_node state.invocation event) event.node event.visit event.attempt (still state Rest)
+      then noting (named_node state.invocation event) (Noted.Stale event.node event.visit event.attempt) (still state Rest)
       else
       when eqb event.status success then on_success state event else
       when eqb event.status failure then on_failure state event else
@@ -122,7 +126,7 @@ module _ (sheet : Workflow) where
   unfoldable pub resolve_as_complete : State → Event → Move
   resolve_as_complete state event =
       when declares sheet (action_at state) event.outcome then complete_invocation state event.outcome (Output.Handle event.output) else
-      not_applicable state event undeclared
+      not_applicable state event Reason.Undeclared
 
   -- Resolving a stuck run as fail ends it as failed with the kept error, even where failed is routed.
   unfoldable pub resolve_as_fail : Option ErrorInfo → State → Event → Move
@@ -132,8 +136,8 @@ module _ (sheet : Workflow) where
   -- An operator's retry needs neither, and has delay 0.
   unfoldable pub on_resolved : State → Event → Move
   on_resolved state event =
-      when not (named state.invocation event) then not_applicable state event mismatch else
-      when eqb state.invocation.phase scheduled then not_applicable state event not_unknown else
+      when not (named state.invocation event) then not_applicable state event Reason.Mismatch else
+      when eqb state.invocation.phase scheduled then not_applicable state event Reason.NotUnknown else
       when eqb event.resolution resolve_complete then resolve_as_complete state event else
       when eqb event.resolution resolve_retry then retry sheet state 0 else
       resolve_as_fail state.invocation.error state event

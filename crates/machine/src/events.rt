@@ -8,10 +8,10 @@ ghost use Rattle.machine.specs.Events.{success_outcome, action_at, may_retry, de
 ghost use Rattle.machine.specs.ReactionLaws.{Reacts};
 
 use crate::reaction::Reaction;
-use model::answer::{Ending, Note};
+use model::answer::{Ended, Ending, Note, Noted, Reason};
 use model::event::Event;
 use model::moves::Next;
-use model::{BufferedSignal, Output, State, code};
+use model::{BufferedSignal, ErrorCode, Output, State, code};
 use workflow::code as sheet;
 use workflow::layout::{NUMBERS, START};
 
@@ -89,15 +89,14 @@ impl<'a> Machine<'a> {
         if State::STORE <= self.state.signal_count {
             return Reaction::Say {
                 note: Note {
-                    code: code::NOTE_OVERFLOW,
                     node: sheet::NONE,
-                    a: self.event.event_id,
-                    b: 0,
-                    c: 0,
+                    noted: Noted::Overflow {
+                        event_id: self.event.event_id,
+                    },
                 },
                 ending: Some(Ending {
                     sequence: self.event.sequence,
-                    ending: code::END_OVERFLOW,
+                    ending: Ended::Overflow,
                 }),
             };
         }
@@ -113,7 +112,7 @@ impl<'a> Machine<'a> {
         if workflow::declares(self.sheet, self.action(), outcome) {
             return Reaction::Route { outcome, output };
         }
-        self.fail_invocation(code::UNDECLARED_OUTCOME, outcome, true)
+        self.fail_invocation(ErrorCode::UndeclaredOutcome.number(), outcome, true)
     }
 
     // A failure is retried, or fails the invocation with its error if it has one.
@@ -126,7 +125,7 @@ impl<'a> Machine<'a> {
         if self.event.has_error {
             return self.fail_invocation(self.event.code, self.event.detail, true);
         }
-        self.fail_invocation(code::ACTIVITY_FAILED, 0, true)
+        self.fail_invocation(ErrorCode::ActivityFailed.number(), 0, true)
     }
 
     // Unknown or expired on effect 1 parks the run.
@@ -138,18 +137,19 @@ impl<'a> Machine<'a> {
                 phase: code::UNKNOWN,
                 error: None,
                 note: Note {
-                    code: code::NOTE_UNKNOWN,
                     node: self.state.position.node,
-                    a: self.state.invocation.visit,
-                    b: self.state.invocation.attempt,
-                    c: self.event.status,
+                    noted: Noted::Unknown {
+                        visit: self.state.invocation.visit,
+                        attempt: self.state.invocation.attempt,
+                        status: self.event.status,
+                    },
                 },
             };
         }
         if self.may_retry() {
             return Reaction::Retry(self.delay_of(self.action()));
         }
-        self.fail_invocation(code::ATTEMPTS_EXHAUSTED, self.event.status, true)
+        self.fail_invocation(ErrorCode::AttemptsExhausted.number(), self.event.status, true)
     }
 
     // A result that doesn't apply is stale.
@@ -159,11 +159,12 @@ impl<'a> Machine<'a> {
         if !self.applies() {
             return Reaction::Say {
                 note: Note {
-                    code: code::NOTE_STALE,
                     node: self.named_node(),
-                    a: self.event.node,
-                    b: self.event.visit,
-                    c: self.event.attempt,
+                    noted: Noted::Stale {
+                        node: self.event.node,
+                        visit: self.event.visit,
+                        attempt: self.event.attempt,
+                    },
                 },
                 ending: None,
             };
@@ -178,16 +179,17 @@ impl<'a> Machine<'a> {
     }
 
     // The resolution is noted with the reason why it doesn't apply.
-    fn not_applicable(&self, reason: u32) -> Reaction
+    fn not_applicable(&self, reason: Reason) -> Reaction
         ensures { Reacts self.now result (λ _ s e. not_applicable s e reason) }
     {
         Reaction::Say {
             note: Note {
-                code: code::NOTE_NOT_APPLICABLE,
                 node: self.named_node(),
-                a: self.event.node,
-                b: self.event.visit,
-                c: reason,
+                noted: Noted::NotApplicable {
+                    node: self.event.node,
+                    visit: self.event.visit,
+                    reason,
+                },
             },
             ending: None,
         }
@@ -204,7 +206,7 @@ impl<'a> Machine<'a> {
                 output: Output::Handle(self.event.output),
             };
         }
-        self.not_applicable(code::UNDECLARED)
+        self.not_applicable(Reason::Undeclared)
     }
 
     // A stuck run ends as failed with the kept error, even where failed is routed.
@@ -222,10 +224,10 @@ impl<'a> Machine<'a> {
         ensures { Reacts self.now result on_resolved }
     {
         if !self.named() {
-            return self.not_applicable(code::MISMATCH);
+            return self.not_applicable(Reason::Mismatch);
         }
         if self.state.invocation.phase == code::SCHEDULED {
-            return self.not_applicable(code::NOT_UNKNOWN);
+            return self.not_applicable(Reason::NotUnknown);
         }
         if self.event.resolution == code::RESOLVE_COMPLETE {
             return self.resolve_as_complete();
@@ -244,16 +246,15 @@ impl<'a> Machine<'a> {
         if self.event.kind == code::SIGNAL_RECEIVED {
             ending = Some(Ending {
                 sequence: self.event.sequence,
-                ending: code::END_IGNORED,
+                ending: Ended::Ignored,
             });
         }
         Reaction::Say {
             note: Note {
-                code: code::NOTE_IGNORED,
                 node: sheet::NONE,
-                a: self.event.kind,
-                b: 0,
-                c: 0,
+                noted: Noted::Ignored {
+                    kind: self.event.kind,
+                },
             },
             ending,
         }

@@ -7,7 +7,7 @@ ghost use Rattle.machine.specs.ReactionLaws.{Reacts};
 
 use crate::events::Machine;
 use crate::reaction::Reaction;
-use model::answer::Note;
+use model::answer::{Note, Noted};
 use model::{ErrorInfo, Output, code};
 use workflow::code as sheet;
 
@@ -67,11 +67,12 @@ impl<'a> Machine<'a> {
                 phase: code::STUCK,
                 error: Some(error),
                 note: Note {
-                    code: code::NOTE_STUCK,
                     node,
-                    a: self.state.invocation.visit,
-                    b: self.state.invocation.attempt,
-                    c: error.code,
+                    noted: Noted::Stuck {
+                        visit: self.state.invocation.visit,
+                        attempt: self.state.invocation.attempt,
+                        code: error.code,
+                    },
                 },
             };
         }

@@ -3,7 +3,7 @@ use model::answer::{Ending, Note};
 use model::moves::Next;
 use model::{ErrorInfo, Output};
 
-#[derive(Clone, Copy)]
+#[derive(Clone, Copy, Debug, PartialEq, Eq)]
 pub enum Reaction {
     // nothing changes, and this comes next
     Pass(Next),

@@ -99,7 +99,7 @@ module _ (f : Workflow) where
   enter_with_params s n b m x = evaluate f (answer m 1) s n Field.Params b 2 (λ p. reading 2 (schedule f s n x (Some p)))
 
   -- An answer e, read as a: its value is gone on with, or it halts; r is the move.
-  module _ (e : Result ℕ NoValue) (s : State) (n i b j : ℕ) (k : ℕ → Move) {a : Result ℕ NoValue} {r : Move} (same : a ≡ e) where
+  module _ (e : Result ℕ NoValue) (s : State) (n : ℕ) (i : Field) (b j : ℕ) (k : ℕ → Move) {a : Result ℕ NoValue} {r : Move} (same : a ≡ e) where
     pub evaluates : {x : ℕ} → a ≡ Ok x → r ≡ k x → r ≡ evaluate f e s n i b j k
     unfolding evaluate
     evaluates h g = rw (← same, h) g

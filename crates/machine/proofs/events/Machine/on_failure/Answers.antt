@@ -20,6 +20,6 @@ pub returns : goal.returns
 unfolding on_failure when◌then◌else◌ ◌and◌
 returns c =
     elim c.else-self.branch [
-      | else-self-via-then-self+else-may_retry w ↦ simp (w.if-self.true, ← w.may_retry.ensures, w.if-may_retry.false, c.if-self-2.false, ← c.fail_invocation-2.ensures)
-      | else-self-via-else-self w ↦ simp (w.if-self.false, c.if-self-2.false, ← c.fail_invocation-2.ensures)
+      | else-self-via-then-self+else-may_retry w ↦ simp (w.if-self.true, ← w.may_retry.ensures, w.if-may_retry.false, c.if-self-2.false, ← (rw c.number.ensures at c.fail_invocation-2.ensures))
+      | else-self-via-else-self w ↦ simp (w.if-self.false, c.if-self-2.false, ← (rw c.number.ensures at c.fail_invocation-2.ensures))
     ]

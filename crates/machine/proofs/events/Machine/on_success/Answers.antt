@@ -9,4 +9,4 @@ returns-then-declares c = simp (← c.success_outcome-outcome.ensures, ← c.act
 
 pub returns : goal.returns
 unfolding on_success when◌then◌else◌
-returns c = simp (← c.success_outcome-outcome.ensures, ← c.action.ensures, ← c.declares.ensures, c.if-declares.false, ← c.fail_invocation.ensures)
+returns c = simp (← c.success_outcome-outcome.ensures, ← c.action.ensures, ← c.declares.ensures, c.if-declares.false, ← (rw c.number.ensures at c.fail_invocation.ensures))

@@ -13,4 +13,4 @@ returns-then-may_retry c = simp (← c.needs_person.ensures, c.if-needs_person.f
 
 pub returns : goal.returns
 unfolding on_unknown when◌then◌else◌
-returns c = simp (← c.needs_person.ensures, c.if-needs_person.false, ← c.may_retry.ensures, c.if-may_retry.false, ← c.fail_invocation.ensures)
+returns c = simp (← c.needs_person.ensures, c.if-needs_person.false, ← c.may_retry.ensures, c.if-may_retry.false, ← (rw c.number.ensures at c.fail_invocation.ensures))
