@@ -9,7 +9,7 @@ use Rattle.laws.specs.Every.{every}
 use Rattle.kernel.specs.Drive.{added}
 use Rattle.laws.specs.Bool.{when◌then◌else◌, ◌and◌, both, join, if_true, if_false, split, either}
 use Rattle.workflow.specs.Code.{none, exhausted}
-use Rattle.model.specs.Code.{scheduled, unknown, stuck, run_started, signal_received, activity_result, end_routed, end_unrouted, end_overflow, end_ignored}
+use Rattle.model.specs.Code.{scheduled, unknown, stuck, run_started, signal_received, activity_result}
 use Rattle.workflow.specs.View.{Workflow}
 use Rattle.workflow.specs.Lookup.{route_of}
 use Rattle.workflow.specs.Sound.{Sound}
@@ -25,6 +25,7 @@ use Rattle.model.specs.declared.event.NoValue.{NoValue}
 use Rattle.model.specs.declared.event.NoValue.TheVariants.{Fault, Unencodable, Lacking}
 use Rattle.model.specs.declared.answer.Order.{Order}
 use Rattle.model.specs.declared.answer.Note.{Note}
+use Rattle.model.specs.declared.answer.Ended.{Ended}
 use Rattle.model.specs.declared.answer.Ending.{Ending}
 use Rattle.model.specs.declared.moves.Next.{Next}
 use Rattle.model.specs.declared.moves.Next.TheVariants.{Rest, Enter, Take, Consume, Wants, Refuse}
@@ -170,7 +171,7 @@ module _ (f : Workflow) (s₀ : State) (e : Event) where
     good v z g = record { after = subst (λ (t : ℕ → ℕ). After t v.state v.order v.next) (untold told v.ending z) g.leads }
 
     -- a signal in hand ends
-    live_ended : (s : State) (q k : ℕ) → Lives told s (λ p. is_it p q) → Lives (λ p. told p + ends_of p (Some (record { sequence = q; ending = k }))) s nothing
+    live_ended : (s : State) (q : ℕ) (k : Ended) → Lives told s (λ p. is_it p q) → Lives (λ p. told p + ends_of p (Some (record { sequence = q; ending = k }))) s nothing
     unfolding ends_of
     live_ended s q k g =
         record {
@@ -291,9 +292,9 @@ module _ (f : Workflow) (s₀ : State) (e : Event) where
     module _ {told : ℕ → ℕ} (s : State) (x : BufferedSignal) where
       good_take_by : (y : Option ℕ) {k : Next} → Missed k → Lives told s (λ q. is_it q x.sequence) → Stands s → Good told (take_by f y s x k)
       unfolding take_by
-      good_take_by (Some t) m g h = record { after = (leads_route s _ _ (live_ended s x.sequence end_routed g)).leads }
-      good_take_by None rests g h = record { after = record { live = live_ended s x.sequence end_unrouted g; stands = h; orders = tt } }
-      good_take_by None consumes g h = record { after = record { live = live_ended s x.sequence end_unrouted g; stands = h } }
+      good_take_by (Some t) m g h = record { after = (leads_route s _ _ (live_ended s x.sequence Ended.Routed g)).leads }
+      good_take_by None rests g h = record { after = record { live = live_ended s x.sequence Ended.Unrouted g; stands = h; orders = tt } }
+      good_take_by None consumes g h = record { after = record { live = live_ended s x.sequence Ended.Unrouted g; stands = h } }
 
       pub good_take : {k : Next} → Missed k → Lives told s (λ q. is_it q x.sequence) → Stands s → Good told (take_signal f s x k)
       good_take m g h = good_take_by _ m g h
@@ -406,19 +407,19 @@ module _ (f : Workflow) (s₀ : State) (e : Event) where
               timed = g.timed;
             })
 
-        good_dropped : (c : ℕ) {x : Option Note} → Good nothing (record { state = s₁; next = Rest; note = x; ending = Some (record { sequence = e.sequence; ending = c }); order = None; read = 0 })
+        good_dropped : (c : Ended) {x : Option Note} → Good nothing (record { state = s₁; next = Rest; note = x; ending = Some (record { sequence = e.sequence; ending = c }); order = None; read = 0 })
         good_dropped c = record { after = record { live = live_ended s₁ e.sequence c arrived; stands = h; orders = tt } }
 
         good_signal : Good nothing (on_signal f s₁ e)
         unfolding on_signal
         good_signal =
             either (Good nothing) _ (λ _. good _ refl (record { leads = record { live = arrived; stands = h } }))
-            (λ _. either (Good nothing) _ (λ _. good_dropped end_overflow)
+            (λ _. either (Good nothing) _ (λ _. good_dropped Ended.Overflow)
             (λ r. good _ refl (leads_rest _ (live_appended (leb-false _ _ r)) (stands_appended s₁ (arrival e) h))))
 
       good_ended : Stands s₁ → Good nothing (on_ended s₁ e)
       unfolding on_ended
-      good_ended h = either (Good nothing) _ (λ k. good_dropped k h end_ignored) (λ n. good _ refl (leads_rest s₁ (live n) h))
+      good_ended h = either (Good nothing) _ (λ k. good_dropped k h Ended.Ignored) (λ n. good _ refl (leads_rest s₁ (live n) h))
 
       pub good_react : Good nothing (apply f s₀ e)
       unfolding react

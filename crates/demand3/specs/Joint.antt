@@ -5,10 +5,8 @@ use Rattle.workflow.specs.declared.refusal.Refusal.{Refusal}
 use Rattle.workflow.specs.Refusal.{number}
 use Rattle.model.specs.declared.BufferedSignal.{BufferedSignal}
 use Rattle.model.specs.declared.event.Event.{Event}
-use Rattle.model.specs.declared.answer.Note.{Note}
-use Rattle.model.specs.declared.answer.Ending.{Ending}
 use Rattle.model.specs.Record.{no_node_result, streak_of, set_signals}
-use Rattle.model.specs.Answers.{output_numbers, kept_numbers, order_numbers}
+use Rattle.model.specs.Answers.{output_numbers, kept_numbers, order_numbers, note_numbers, ending_numbers, field_number}
 use Rattle.kernel.specs.declared.Call.{Call}
 use Rattle.kernel.specs.Call.{Answer, next, wants, refused, Last, transition}
 use Rattle.demand3.specs.Demand3.{Entry, standing, history, dated}
@@ -67,13 +65,13 @@ seen_of (next accepted) =
       place = state.status ∷ state.position.node ∷ state.position.visit ∷ state.invocation.phase ∷ [];
       microsteps = accepted.microsteps;
       order = order_numbers accepted.order;
-      notes = map (λ (note : Note). note.code ∷ note.node ∷ note.a ∷ note.b ∷ note.c ∷ []) accepted.notes;
-      endings = map (λ (ending : Ending). ending.sequence ∷ ending.ending ∷ []) accepted.endings;
+      notes = map note_numbers accepted.notes;
+      endings = map ending_numbers accepted.endings;
       node_1 = (streak_of state 1).count ∷ (get_or state.results 1 no_node_result).outcome ∷ [];
       result = output_numbers state.result.output;
       kept = kept_numbers state.invocation.error;
     }
-seen_of (wants node field from state) = record { place = node ∷ field ∷ from ∷ []; microsteps = 0; order = []; notes = []; endings = []; node_1 = []; result = []; kept = [] }
+seen_of (wants node field from state) = record { place = node ∷ field_number field ∷ from ∷ []; microsteps = 0; order = []; notes = []; endings = []; node_1 = []; result = []; kept = [] }
 seen_of (refused refusal item) = record { place = number refusal ∷ item ∷ []; microsteps = 0; order = []; notes = []; endings = []; node_1 = []; result = []; kept = [] }
 
 -- The answer to the last of a list of calls.

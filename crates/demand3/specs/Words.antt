@@ -1,11 +1,11 @@
 -- The words of demand 3 that count: sequence numbers, visits, notes.
-use Rattle.std.specs.Prelude.{◌≡◌, Bool, not, List, [], ◌∷◌, ℕ, ◌+◌, ◌≤◌, eqb}
-use Rattle.laws.specs.Bool.{when◌then◌else◌, ◌and◌}
+use Rattle.std.specs.Prelude.{◌≡◌, Bool, true, false, List, [], ◌∷◌, ℕ, ◌+◌, ◌≤◌, eqb}
+use Rattle.laws.specs.Bool.{when◌then◌else◌}
 use Rattle.laws.specs.All.{All}
 use Rattle.workflow.specs.View.{Workflow}
-use Rattle.model.specs.Code.{note_ignored, note_stale, note_not_applicable}
 use Rattle.model.specs.declared.BufferedSignal.{BufferedSignal}
 use Rattle.model.specs.declared.Visits.{Visits}
+use Rattle.model.specs.declared.answer.Noted.{Noted}
 use Rattle.model.specs.declared.answer.Note.{Note}
 
 -- 1 if the number is the sequence number, else 0.
@@ -29,5 +29,16 @@ pub record Counts (sheet : Workflow) (visits : List Visits) (activations : ℕ) 
   pub few : activations ≤ sheet.max_activations
 
 -- None of the notes 1 to 3.
+abbrev pub is_plain : Noted → Bool
+is_plain (Noted.Ignored kind) = false
+is_plain (Noted.Stale node visit attempt) = false
+is_plain (Noted.NotApplicable node visit reason) = false
+is_plain (Noted.Overflow event_id) = true
+is_plain (Noted.Unrouted event_id outcome) = true
+is_plain (Noted.Unknown visit attempt status) = true
+is_plain (Noted.Stuck visit attempt code) = true
+is_plain (Noted.Retry attempt) = true
+is_plain (Noted.Exhausted outcome limit) = true
+
 unfoldable pub plain : Note → Bool
-plain note = not (eqb note.code note_ignored) and not (eqb note.code note_stale) and not (eqb note.code note_not_applicable)
+plain note = is_plain note.noted

@@ -7,6 +7,7 @@ use Rattle.model.specs.declared.State.{State}
 use Rattle.model.specs.declared.answer.Order.{Order}
 use Rattle.model.specs.declared.answer.Note.{Note}
 use Rattle.model.specs.declared.answer.Ending.{Ending}
+use Rattle.model.specs.declared.answer.Field.{Field}
 use Rattle.model.specs.declared.moves.Next.{Next}
 use Rattle.model.specs.declared.moves.Next.TheVariants.{Rest, Enter, Take, Consume, Wants, Refuse}
 use Rattle.workflow.specs.Code.{none}
@@ -74,7 +75,7 @@ pub record Accepted : Type 0 where
 
 pub data Answer : Type 0 where
   next : Accepted → Answer
-  wants : (node field from : ℕ) → State → Answer
+  wants : (node : ℕ) → Field → (from : ℕ) → State → Answer
   refused : Refusal → (item : ℕ) → Answer
 
 -- THE CLOSE (document 02, T-02): a run that has ended leaves over the signals that are still stored. They are listed behind the other endings, oldest first, and the store is

@@ -26,6 +26,7 @@ use Rattle.kernel.specs.declared.Limits.{Limits}
 use Rattle.model.specs.declared.answer.Order.{Order}
 use Rattle.model.specs.declared.answer.Note.{Note}
 use Rattle.model.specs.declared.answer.Ending.{Ending}
+use Rattle.model.specs.declared.answer.Field.{Field}
 use Rattle.model.specs.declared.answer.Answer as code
 use Rattle.kernel.specs.declared.Decision.{Decision}
 use Rattle.kernel.specs.declared.drive.Round.{Round}
@@ -123,7 +124,7 @@ answer_of Consume o l k n = rest_answer None l k n
 answer_of (Wants t i b) o l k n = code.Answer.Wants t i b
 answer_of (Refuse r) o l k n = code.Answer.Refused r none
 
-pub answer_else : (n : Next) (o : Option Order) (l : Limits) (k q : ℕ) → (n ≡ Rest → ⊥) → (n ≡ Consume → ⊥) → ((t i b : ℕ) → n ≡ Wants t i b → ⊥) → ((r : Refusal) → n ≡ Refuse r → ⊥)
+pub answer_else : (n : Next) (o : Option Order) (l : Limits) (k q : ℕ) → (n ≡ Rest → ⊥) → (n ≡ Consume → ⊥) → ((t : ℕ) (i : Field) (b : ℕ) → n ≡ Wants t i b → ⊥) → ((r : Refusal) → n ≡ Refuse r → ⊥)
     → code.Answer.Refused Refusal.Invariant none ≡ answer_of n o l k q
 unfolding answer_of
 answer_else Rest o l k q x y z w = absurd (x refl)
