@@ -1,11 +1,11 @@
 -- A written answer is read as the answer: what a host finds in its buffer is what the definition says.
-use Rattle.std.specs.Prelude.{◌≡◌, ℕ, ◌+◌, ◌^◌, ◌≤◌, ◌<◌, ltb, get_or, take, drop, replicate, Option, Some, None}
+use Rattle.std.specs.Prelude.{◌≡◌, ℕ, zero, suc, map, ◌+◌, ◌^◌, ◌≤◌, ◌<◌, ltb, get_or, take, drop, replicate, Option, Some, None}
 use Rattle.std.proofs.Math.Path.{refl}
 use Rattle.std.proofs.Common.{◌∙◌, length-append, get_or-append-add, ltb-true, ltb-false, eq-eqb}
 use mathlib.Core.List.{List, [], ◌∷◌, ◌++◌, flat_map, append_assoc}
 use native.Mathlib.Omega.{arith}
 use Rattle.std.proofs.Math.ListN.{length, get_or-append, get_or-eq_default}
-use Rattle.std.proofs.lemmas.List.{length-replicate}
+use Rattle.std.proofs.lemmas.List.{length-map, length-replicate}
 use Rattle.std.proofs.Math.Seq.{drop_at, take_at}
 use Rattle.laws.specs.Bool.{when◌then◌else◌, split, if_true}
 use Rattle.laws.specs.Rows.{span}
@@ -17,19 +17,25 @@ use Rattle.workflow.specs.Refusal.{number, refusal_of}
 use Rattle.laws.specs.First.{first}
 use Rattle.model.specs.declared.State.{State}
 use Rattle.model.specs.declared.answer.Order.{Order}
+use Rattle.model.specs.declared.answer.Reason.{Reason}
+use Rattle.model.specs.declared.answer.Noted.{Noted}
+use Rattle.model.specs.declared.answer.Note.{Note}
+use Rattle.model.specs.declared.answer.Ended.{Ended}
+use Rattle.model.specs.declared.answer.Ending.{Ending}
+use Rattle.model.specs.declared.answer.Field.{Field}
 use Rattle.model.specs.declared.answer.Answer as code
-use Rattle.model.specs.Answers.{params_numbers, order_numbers, answer_numbers}
-use Rattle.model.specs.Step.{no_note, no_ending}
+use Rattle.model.specs.Answers.{params_numbers, order_numbers, reason_number, noted_numbers, note_numbers, ended_number, ending_numbers, field_number, answer_numbers}
 use Rattle.kernel.specs.declared.Decision.{Decision}
 use Rattle.kernel.specs.Call.{Accepted, Answer, next, wants, refused, given_record, transition}
+use Rattle.kernel.specs.Listed.{listed}
 use Rattle.kernel.specs.Decision.{decision_of}
 use Rattle.host.specs.Layout as layout
 use Rattle.host.specs.Layout.{note_place, ending_place, answer_length, answer_record, record_length}
 use Rattle.host.specs.Read.{at, record_of, call_of, has_record}
-use Rattle.host.specs.Write.{note_numbers, ending_numbers, record_numbers, state_numbers, decision_numbers}
-use Rattle.host.proofs.WriteLaws.{Whole, flat_size, length_answer, length_note, length_ending, length_record}
+use Rattle.host.specs.Write.{note_row, ending_row, record_numbers, state_numbers, decision_numbers}
+use Rattle.host.proofs.WriteLaws.{Whole, flat_size, length_answer, length_note_row, length_ending_row, length_record}
 use Rattle.host.specs.Host.{receipt, decided, answered, Full}
-use Rattle.host.specs.ReadAnswer.{params_from, order_from, note_from, ending_from, accepted_from, answer_of_numbers}
+use Rattle.host.specs.ReadAnswer.{params_from, order_from, reason_from, noted_from, note_from, ended_from, ending_from, field_from, accepted_from, answer_of_numbers}
 use Rattle.host.specs.Fits.{Fits, AcceptedFits, AnswerFits}
 use Rattle.host.specs.WriteRows.{front_numbers}
 use Rattle.host.proofs.WriteRowsLaws.{WroteIn}
@@ -55,55 +61,111 @@ length_state (code.Answer.Next order microsteps) s h = length_record s h
 length_state (code.Answer.Wants node field from) s h = length_record s h
 length_state (code.Answer.Refused refusal item) s h = length-replicate {A = ℕ} record_length 0
 
+-- A ROW is read back from its numbers.
+reason_read : (x : Reason) → reason_from (reason_number x) ≡ x
+unfolding when◌then◌else◌
+reason_read Reason.Mismatch = refl
+reason_read Reason.NotUnknown = refl
+reason_read Reason.Undeclared = refl
+
+noted_read : (node : ℕ) (x : Noted) → noted_from (at (noted_numbers node x) 0) (at (noted_numbers node x) 2) (at (noted_numbers node x) 3) (at (noted_numbers node x) 4) ≡ x
+unfolding noted_from when◌then◌else◌
+noted_read node (Noted.Ignored kind) = refl
+noted_read node (Noted.Stale named visit attempt) = refl
+noted_read node (Noted.NotApplicable named visit reason) = rw (reason_read reason)
+noted_read node (Noted.Overflow event_id) = refl
+noted_read node (Noted.Unrouted event_id outcome) = refl
+noted_read node (Noted.Unknown visit attempt status) = refl
+noted_read node (Noted.Stuck visit attempt code) = refl
+noted_read node (Noted.Retry attempt) = refl
+noted_read node (Noted.Exhausted outcome limit) = refl
+
+node_there : (node : ℕ) (x : Noted) → at (noted_numbers node x) 1 ≡ node
+node_there node (Noted.Ignored kind) = refl
+node_there node (Noted.Stale named visit attempt) = refl
+node_there node (Noted.NotApplicable named visit reason) = refl
+node_there node (Noted.Overflow event_id) = refl
+node_there node (Noted.Unrouted event_id outcome) = refl
+node_there node (Noted.Unknown visit attempt status) = refl
+node_there node (Noted.Stuck visit attempt code) = refl
+node_there node (Noted.Retry attempt) = refl
+node_there node (Noted.Exhausted outcome limit) = refl
+
+ended_read : (x : Ended) → ended_from (ended_number x) ≡ x
+unfolding when◌then◌else◌
+ended_read Ended.Routed = refl
+ended_read Ended.Unrouted = refl
+ended_read Ended.Overflow = refl
+ended_read Ended.Ignored = refl
+ended_read Ended.LeftOver = refl
+
+field_read : (x : Field) → field_from (field_number x) ≡ x
+unfolding when◌then◌else◌
+field_read Field.Input = refl
+field_read Field.Params = refl
+field_read Field.Output = refl
+
+module _ {ns : List ℕ} (i : ℕ) where
+  note_read : (x : Note) → at ns (note_place i) ≡ at (note_numbers x) 0 → at ns (note_place i + 1) ≡ at (note_numbers x) 1 → at ns (note_place i + 2) ≡ at (note_numbers x) 2
+      → at ns (note_place i + 3) ≡ at (note_numbers x) 3 → at ns (note_place i + 4) ≡ at (note_numbers x) 4 → note_from ns i ≡ x
+  unfolding note_from note_numbers
+  note_read x a b c d e = rw (a, b, c, d, e, noted_read x.node x.noted, node_there x.node x.noted)
+
+  ending_read : (x : Ending) → at ns (ending_place i) ≡ at (ending_numbers x) 0 → at ns (ending_place i + 1) ≡ at (ending_numbers x) 1 → ending_from ns i ≡ x
+  unfolding ending_from ending_numbers
+  ending_read x a b = rw (a, b, ended_read x.ending)
+
 -- A DECISION whose arrays are whole.
-module _ (d : Decision) (noted : length d.notes ≡ layout.notes) (ended : length d.endings ≡ layout.endings) where
+module _ (d : Decision) (noted : length d.notes.rows ≡ layout.notes) (ended : length d.endings.rows ≡ layout.endings) where
   abbrev front : List ℕ
-  front = answer_numbers d.answer ++ (d.note_count ∷ d.ending_count ∷ [])
+  front = answer_numbers d.answer ++ (d.notes.count ∷ d.endings.count ∷ [])
 
   length_front : length front ≡ layout.answer_notes
   length_front = simp (length-append, length_answer)
 
-  length_noted : length (front ++ flat_map note_numbers d.notes) ≡ layout.answer_endings
-  length_noted = let a = length_front in let b = flat_size note_numbers layout.notes length_note d.notes noted in rw (length-append, a, b)
+  length_noted : length (front ++ flat_map note_row d.notes.rows) ≡ layout.answer_endings
+  length_noted = let a = length_front in let b = flat_size note_row layout.notes length_note_row d.notes.rows noted in rw (length-append, a, b)
 
-  length_ended : length (front ++ flat_map note_numbers d.notes ++ flat_map ending_numbers d.endings) ≡ answer_record
-  length_ended = let a = length_noted in let b = flat_size ending_numbers layout.endings length_ending d.endings ended in rw (length-append, a, b)
+  length_ended : length (front ++ flat_map note_row d.notes.rows ++ flat_map ending_row d.endings.rows) ≡ answer_record
+  length_ended = let a = length_noted in let b = flat_size ending_row layout.endings length_ending_row d.endings.rows ended in rw (length-append, a, b)
 
-  count_at : (n : ℕ) → at (decision_numbers d) (layout.answer_noted + n) ≡ at (d.note_count ∷ d.ending_count ∷ (flat_map note_numbers d.notes ++ (flat_map ending_numbers d.endings ++ state_numbers d.answer d.state))) n
+  count_at : (n : ℕ) → at (decision_numbers d) (layout.answer_noted + n) ≡ at (d.notes.count ∷ d.endings.count ∷ (flat_map note_row d.notes.rows ++ (flat_map ending_row d.endings.rows ++ state_numbers d.answer d.state))) n
   unfolding decision_numbers
   count_at n =
       let l = length_answer d.answer in
-      let rest = d.note_count ∷ d.ending_count ∷ (flat_map note_numbers d.notes ++ (flat_map ending_numbers d.endings ++ state_numbers d.answer d.state)) in
+      let rest = d.notes.count ∷ d.endings.count ∷ (flat_map note_row d.notes.rows ++ (flat_map ending_row d.endings.rows ++ state_numbers d.answer d.state)) in
       let e : decision_numbers d ≡ answer_numbers d.answer ++ rest = simp append_assoc in
       let p : layout.answer_noted + n ≡ length (answer_numbers d.answer) + n = omega arith in
       rw (e, p) (get_or-append-add (answer_numbers d.answer) rest n 0)
 
-  note_at : (i : ℕ) → i < layout.notes → (j p : ℕ) → j < layout.note_width → p ≡ note_place i + j → at (decision_numbers d) p ≡ at (note_numbers (get_or d.notes i no_note)) j
+  note_at : (i : ℕ) → i < layout.notes → (j p : ℕ) → j < layout.note_width → p ≡ note_place i + j → at (decision_numbers d) p ≡ at (note_row (get_or d.notes.rows i None)) j
   unfolding decision_numbers
   note_at i h j p g place =
-      let rest = flat_map ending_numbers d.endings ++ state_numbers d.answer d.state in
-      let e : decision_numbers d ≡ front ++ (flat_map note_numbers d.notes ++ rest) = simp append_assoc in
-      rw e (row_at note_numbers layout.note_width length_note rest no_note j g front layout.answer_notes d.notes i p length_front place (omega arith))
+      let rest = flat_map ending_row d.endings.rows ++ state_numbers d.answer d.state in
+      let e : decision_numbers d ≡ front ++ (flat_map note_row d.notes.rows ++ rest) = simp append_assoc in
+      rw e (row_at note_row layout.note_width length_note_row rest None j g front layout.answer_notes d.notes.rows i p length_front place (omega arith))
 
-  ending_at : (i : ℕ) → i < layout.endings → (j p : ℕ) → j < layout.ending_width → p ≡ ending_place i + j → at (decision_numbers d) p ≡ at (ending_numbers (get_or d.endings i no_ending)) j
+  ending_at : (i : ℕ) → i < layout.endings → (j p : ℕ) → j < layout.ending_width → p ≡ ending_place i + j → at (decision_numbers d) p ≡ at (ending_row (get_or d.endings.rows i None)) j
   unfolding decision_numbers
   ending_at i h j p g place =
       let rest = state_numbers d.answer d.state in
-      let before = front ++ flat_map note_numbers d.notes in
-      let e : decision_numbers d ≡ before ++ (flat_map ending_numbers d.endings ++ rest) = simp append_assoc in
-      rw e (row_at ending_numbers layout.ending_width length_ending rest no_ending j g before layout.answer_endings d.endings i p length_noted place (omega arith))
+      let before = front ++ flat_map note_row d.notes.rows in
+      let e : decision_numbers d ≡ before ++ (flat_map ending_row d.endings.rows ++ rest) = simp append_assoc in
+      rw e (row_at ending_row layout.ending_width length_ending_row rest None j g before layout.answer_endings d.endings.rows i p length_noted place (omega arith))
 
-  note_back : (i : ℕ) → i < layout.notes → note_from (decision_numbers d) i ≡ get_or d.notes i no_note
-  unfolding note_from note_numbers
-  note_back i h = rw (note_at i h 0 (note_place i) (omega arith) (omega arith), note_at i h 1 (note_place i + 1) (omega arith) (omega arith), note_at i h 2 (note_place i + 2) (omega arith) (omega arith), note_at i h 3 (note_place i + 3) (omega arith) (omega arith), note_at i h 4 (note_place i + 4) (omega arith) (omega arith))
+  note_back : (i : ℕ) → i < layout.notes → (x : Note) → get_or d.notes.rows i None ≡ Some x → note_from (decision_numbers d) i ≡ x
+  note_back i h x e =
+      let there : (j p : ℕ) → j < layout.note_width → p ≡ note_place i + j → at (decision_numbers d) p ≡ at (note_numbers x) j = λ j p g place. rw e at (note_at i h j p g place) in
+      note_read i x (there 0 (note_place i) (omega arith) (omega arith)) (there 1 (note_place i + 1) (omega arith) (omega arith)) (there 2 (note_place i + 2) (omega arith) (omega arith)) (there 3 (note_place i + 3) (omega arith) (omega arith)) (there 4 (note_place i + 4) (omega arith) (omega arith))
 
-  ending_back : (i : ℕ) → i < layout.endings → ending_from (decision_numbers d) i ≡ get_or d.endings i no_ending
-  unfolding ending_from ending_numbers
-  ending_back i h = rw (ending_at i h 0 (ending_place i) (omega arith) (omega arith), ending_at i h 1 (ending_place i + 1) (omega arith) (omega arith))
+  ending_back : (i : ℕ) → i < layout.endings → (x : Ending) → get_or d.endings.rows i None ≡ Some x → ending_from (decision_numbers d) i ≡ x
+  ending_back i h x e =
+      let there : (j p : ℕ) → j < layout.ending_width → p ≡ ending_place i + j → at (decision_numbers d) p ≡ at (ending_numbers x) j = λ j p g place. rw e at (ending_at i h j p g place) in
+      ending_read i x (there 0 (ending_place i) (omega arith) (omega arith)) (there 1 (ending_place i + 1) (omega arith) (omega arith))
 
   state_behind : drop answer_record (decision_numbers d) ≡ state_numbers d.answer d.state
   unfolding decision_numbers
-  state_behind = drop_at (front ++ flat_map note_numbers d.notes ++ flat_map ending_numbers d.endings) (state_numbers d.answer d.state) answer_record length_ended
+  state_behind = drop_at (front ++ flat_map note_row d.notes.rows ++ flat_map ending_row d.endings.rows) (state_numbers d.answer d.state) answer_record length_ended
 
   length_decision : length (state_numbers d.answer d.state) ≡ record_length → length (decision_numbers d) ≡ answer_length
   unfolding decision_numbers
@@ -116,18 +178,38 @@ module _ (d : Decision) (noted : length d.notes ≡ layout.notes) (ended : lengt
   pub front_wrote : {l₀ l : List ℕ} → answer_length ≤ length l₀ → l ≡ splice l₀ 0 (front_numbers d ++ replicate record_length 0) → WroteIn l₀ 0 (front_numbers d) answer_record record_length l
   front_wrote room e = record { so_far = e; size = length_ended; room = omega arith }
 
+-- A LIST IN ITS ROWS.
+module _ {A : Type 0} where
+  length_listed : (xs : List A) (size : ℕ) → length xs ≤ size → length (padded size None (map Some xs)) ≡ size
+  length_listed xs size h = let l = length-map xs Some in length_padded None (map Some xs) size (omega arith)
+
+  some_at : (d : A) (xs : List A) (i : ℕ) → i < length xs → get_or (map Some xs) i None ≡ Some (get_or xs i d)
+  some_at d [] i h = absurd (omega arith)
+  some_at d (x ∷ xs) zero h = refl
+  some_at d (x ∷ xs) (suc i) h = some_at d xs i (omega arith)
+
+  listed_at : (d : A) (xs : List A) (size i : ℕ) → i < length xs → get_or (padded size None (map Some xs)) i None ≡ Some (get_or xs i d)
+  listed_at d xs size i h = let l = length-map xs Some in padded_at None (map Some xs) size i (omega arith) ∙ some_at d xs i h
+
+-- what stands past a list
+abbrev blank_note : Note
+blank_note = record { node = 0; noted = Noted.Retry 0 }
+
+abbrev blank_ending : Ending
+blank_ending = record { sequence = 0; ending = Ended.Routed }
+
 -- A NEXT RECORD.
 module _ (x : Accepted) (f : AcceptedFits x) where
   abbrev written : List ℕ
   written = decision_numbers (decision_of (next x))
 
-  notes_long : length (decision_of (next x)).notes ≡ layout.notes
-  unfolding decision_of
-  notes_long = length_padded no_note x.notes layout.notes f.notes
+  notes_long : length (decision_of (next x)).notes.rows ≡ layout.notes
+  unfolding decision_of listed
+  notes_long = length_listed x.notes layout.notes f.notes
 
-  endings_long : length (decision_of (next x)).endings ≡ layout.endings
-  unfolding decision_of
-  endings_long = length_padded no_ending x.endings layout.endings f.endings
+  endings_long : length (decision_of (next x)).endings.rows ≡ layout.endings
+  unfolding decision_of listed
+  endings_long = length_listed x.endings layout.endings f.endings
 
   next_kind : at written layout.answer_kind ≡ 1
   unfolding decision_numbers decision_of answer_numbers
@@ -142,26 +224,26 @@ module _ (x : Accepted) (f : AcceptedFits x) where
   next_order = simp append_assoc (order_back 1 x.microsteps x.order _)
 
   next_noted : at written layout.answer_noted ≡ length x.notes
-  unfolding decision_of
+  unfolding decision_of listed
   next_noted = count_at (decision_of (next x)) notes_long endings_long 0
 
   next_ended : at written layout.answer_ended ≡ length x.endings
-  unfolding decision_of
+  unfolding decision_of listed
   next_ended = count_at (decision_of (next x)) notes_long endings_long 1
 
-  next_note : (i : ℕ) → i < length x.notes → note_from written i ≡ get_or x.notes i no_note
-  unfolding decision_of
-  next_note i h = let b = f.notes in note_back (decision_of (next x)) notes_long endings_long i (omega arith) ∙ padded_at no_note x.notes layout.notes i h
+  next_note : (i : ℕ) → i < length x.notes → note_from written i ≡ get_or x.notes i blank_note
+  unfolding decision_of listed
+  next_note i h = let b = f.notes in note_back (decision_of (next x)) notes_long endings_long i (omega arith) (get_or x.notes i blank_note) (listed_at blank_note x.notes layout.notes i h)
 
   next_notes : span (note_from written) 0 (length x.notes) ≡ x.notes
-  next_notes = span_list (note_from written) no_note x.notes (length x.notes) refl next_note
+  next_notes = span_list (note_from written) blank_note x.notes (length x.notes) refl next_note
 
-  next_ending : (i : ℕ) → i < length x.endings → ending_from written i ≡ get_or x.endings i no_ending
-  unfolding decision_of
-  next_ending i h = let b = f.endings in ending_back (decision_of (next x)) notes_long endings_long i (omega arith) ∙ padded_at no_ending x.endings layout.endings i h
+  next_ending : (i : ℕ) → i < length x.endings → ending_from written i ≡ get_or x.endings i blank_ending
+  unfolding decision_of listed
+  next_ending i h = let b = f.endings in ending_back (decision_of (next x)) notes_long endings_long i (omega arith) (get_or x.endings i blank_ending) (listed_at blank_ending x.endings layout.endings i h)
 
   next_endings : span (ending_from written) 0 (length x.endings) ≡ x.endings
-  next_endings = span_list (ending_from written) no_ending x.endings (length x.endings) refl next_ending
+  next_endings = span_list (ending_from written) blank_ending x.endings (length x.endings) refl next_ending
 
   pub next_record : drop answer_record written ≡ record_numbers x.state
   unfolding decision_of state_numbers
@@ -176,14 +258,16 @@ module _ (x : Accepted) (f : AcceptedFits x) where
   next_back = rw (next_kind, next_microsteps, next_order, next_noted, next_ended, next_notes, next_endings, next_record, record_back_of x.state f.state)
 
 -- A WANT AND A REFUSAL have no lists.
-module _ (d : Decision) (a : d.notes ≡ padded layout.notes no_note []) (b : d.endings ≡ padded layout.endings no_ending []) where
-  none_noted : length d.notes ≡ layout.notes
-  none_noted = rw a (length_padded no_note [] layout.notes (omega arith))
+module _ (d : Decision) (a : d.notes ≡ listed []) (b : d.endings ≡ listed []) where
+  none_noted : length d.notes.rows ≡ layout.notes
+  unfolding listed
+  none_noted = rw a (length_listed {A = Note} [] layout.notes (omega arith))
 
-  none_ended : length d.endings ≡ layout.endings
-  none_ended = rw b (length_padded no_ending [] layout.endings (omega arith))
+  none_ended : length d.endings.rows ≡ layout.endings
+  unfolding listed
+  none_ended = rw b (length_listed {A = Ending} [] layout.endings (omega arith))
 
-module _ (node field from : ℕ) (state : State) (f : Fits state) where
+module _ (node : ℕ) (field : Field) (from : ℕ) (state : State) (f : Fits state) where
   pub want_record : drop answer_record (decision_numbers (decision_of (wants node field from state))) ≡ record_numbers state
   unfolding decision_of state_numbers
   want_record = let d = decision_of (wants node field from state) in state_behind d (none_noted d refl refl) (none_ended d refl refl)
@@ -192,7 +276,7 @@ module _ (node field from : ℕ) (state : State) (f : Fits state) where
   unfolding decision_of state_numbers
   want_width = let d = decision_of (wants node field from state) in length_decision d (none_noted d refl refl) (none_ended d refl refl) (record_numbers_length state f)
 
-  want_numbers : (at (decision_numbers (decision_of (wants node field from state))) layout.answer_kind ≡ 2) × (at (decision_numbers (decision_of (wants node field from state))) layout.answer_want_node ≡ node) × (at (decision_numbers (decision_of (wants node field from state))) layout.answer_want_field ≡ field) × (at (decision_numbers (decision_of (wants node field from state))) layout.answer_want_from ≡ from)
+  want_numbers : (at (decision_numbers (decision_of (wants node field from state))) layout.answer_kind ≡ 2) × (at (decision_numbers (decision_of (wants node field from state))) layout.answer_want_node ≡ node) × (at (decision_numbers (decision_of (wants node field from state))) layout.answer_want_field ≡ field_number field) × (at (decision_numbers (decision_of (wants node field from state))) layout.answer_want_from ≡ from)
   unfolding decision_numbers decision_of answer_numbers
   want_numbers = (refl, refl, refl, refl)
 
@@ -200,7 +284,7 @@ module _ (node field from : ℕ) (state : State) (f : Fits state) where
   unfolding answer_of_numbers when◌then◌else◌
   want_back =
       let w = want_numbers in
-      rw (w.0, w.1, w.2, w.3, want_record, record_back_of state f)
+      rw (w.0, w.1, w.2, w.3, field_read field, want_record, record_back_of state f)
 
 -- A refusal is read back from its number.
 refusal_read : (refusal : Refusal) → refusal_of (number refusal) ≡ refusal
@@ -299,7 +383,7 @@ module _ (sheet : List ℕ) (sheet_size : ℕ) (call given buffer : List ℕ) (d
       let g : AnswerFits answer = rw e f in
       rw (answered_begins g, e) (next_record x f)
 
-  pub answered_want : (node field from : ℕ) (state : State) → answer ≡ wants node field from state → Fits state → drop answer_record (take answer_length (answered sheet sheet_size call given buffer)) ≡ record_numbers state
+  pub answered_want : (node : ℕ) (field : Field) (from : ℕ) (state : State) → answer ≡ wants node field from state → Fits state → drop answer_record (take answer_length (answered sheet sheet_size call given buffer)) ≡ record_numbers state
   answered_want node field from state e f =
       let g : AnswerFits answer = rw e f in
       rw (answered_begins g, e) (want_record node field from state f)

@@ -13,7 +13,7 @@ use Rattle.model.specs.declared.answer.Answer.{Answer}
 use Rattle.model.specs.Answers.{output_numbers, kept_numbers, params_numbers, order_numbers, answer_numbers}
 use Rattle.host.specs.Layout.{store, nodes, error_width, record_error, record_stored, record_signals, record_length, answer_noted}
 use Rattle.host.specs.Write.{signal_numbers, visits_numbers, streak_numbers, result_numbers, scalar_numbers, head_numbers, record_numbers}
-pub use Rattle.host.specs.RowLaws.{length_output, length_signal, length_visits, length_streak, length_result, length_note, length_ending}
+pub use Rattle.host.specs.RowLaws.{length_output, length_signal, length_visits, length_streak, length_result, length_note_row, length_ending_row}
 
 pub length_kept : (x : Option ErrorInfo) → length (kept_numbers x) ≡ error_width
 unfolding kept_numbers

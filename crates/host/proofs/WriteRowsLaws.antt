@@ -1,5 +1,5 @@
 -- Rows written by count, over zeros: rows that are left out are empty, so that their numbers are the zeros that stand there.
-use Rattle.std.specs.Prelude.{◌≡◌, true, false, get_or, replicate}
+use Rattle.std.specs.Prelude.{◌≡◌, Some, None, true, false, map, get_or, replicate}
 use Rattle.std.proofs.Math.Path.{refl}
 use Rattle.std.proofs.Common.{take_all, drop_of_length-le, get_or-take, get_or-drop, sym, ap, ◌∙◌, mul-suc, mul-add, length-drop, take_at, get_or-append-add}
 use Rattle.std.proofs.lemmas.Bool.{false≢true}
@@ -8,7 +8,7 @@ use Prim.Native.Nat.{ℕ, zero, suc, ◌+◌, ◌*◌, ◌-◌, ◌≤◌, ◌<�
 use native.Mathlib.Omega.{arith}
 use Rattle.std.proofs.Math.Nat.{mul-le-mul_left}
 use Rattle.std.proofs.Math.ListN.{length, take, drop, length-append, get_or-append}
-use Rattle.std.proofs.lemmas.List.{length-replicate, replicate-append-replicate, drop-append-le}
+use Rattle.std.proofs.lemmas.List.{length-map, length-replicate, replicate-append-replicate, drop-append-le}
 use Rattle.std.proofs.Math.Seq.{length-take-le, drop-append-add, drop-drop}
 use borrow.Rule.Slice.PartMut.{put_mid}
 use Rattle.std.specs.Int.Bits.{bit_or}
@@ -20,16 +20,16 @@ use Rattle.model.specs.declared.State.{State}
 use Rattle.model.specs.declared.answer.Answer as code
 use Rattle.model.specs.Answers.{output_numbers, answer_numbers}
 use Rattle.model.specs.Record.{no_signal, no_visits, no_streak, no_node_result}
-use Rattle.model.specs.Step.{no_note, no_ending}
 use Rattle.kernel.specs.declared.Decision.{Decision}
 use Rattle.kernel.specs.Call.{Answer, next, wants, refused}
+use Rattle.kernel.specs.Listed.{listed}
 use Rattle.kernel.specs.Decision.{decision_of}
 use Rattle.host.specs.Layout as layout
 use mir.Val.{bool_byte}
 use Rattle.std.specs.Prelude.{Bool}
-use Rattle.host.specs.Write.{marked, signal_numbers, visits_numbers, streak_numbers, result_numbers, note_numbers, ending_numbers, state_numbers, record_numbers, decision_numbers}
+use Rattle.host.specs.Write.{marked, signal_numbers, visits_numbers, streak_numbers, result_numbers, note_row, ending_row, state_numbers, record_numbers, decision_numbers}
 use Rattle.host.specs.RowLaws.{or_both}
-use Rattle.host.proofs.WriteLaws.{Whole, length_answer, length_note, length_ending, length_record}
+use Rattle.host.proofs.WriteLaws.{Whole, length_answer, length_note_row, length_ending_row, length_record}
 use Rattle.host.proofs.Lists.{padded_past, getD_replicate_same}
 use Rattle.host.specs.ByCount.{Zeros}
 use Rattle.host.proofs.ByCountLaws.{drop_replicate}
@@ -61,13 +61,6 @@ pub result_zeros : result_numbers no_node_result ≡ zeros layout.result_width
 unfolding result_numbers output_numbers
 result_zeros = refl
 
-pub note_zeros : note_numbers no_note ≡ zeros layout.note_width
-unfolding note_numbers
-note_zeros = refl
-
-pub ending_zeros : ending_numbers no_ending ≡ zeros layout.ending_width
-unfolding ending_numbers
-ending_zeros = refl
 
 -- Digits joined over a list are 0 only if each row's are.
 module _ {A : Type 0} (digits : A → ℕ) where
@@ -264,27 +257,27 @@ state_kept (code.Answer.Next order microsteps) s e = refl
 state_kept (code.Answer.Wants node field from) s e = refl
 state_kept (code.Answer.Refused number item) s e = absurd (false≢true (sym e))
 
-padded_empty : {A : Type 0} (d : A) (n : ℕ) (xs : List A) → EmptyPast d (padded n d xs) n (min n (length xs))
-padded_empty d n xs = record { low = omega arith; empty = λ i a b. padded_past d xs n i (omega arith) }
+listed_empty : {A : Type 0} (n : ℕ) (xs : List A) → EmptyPast None (padded n None (map Some xs)) n (min n (length xs))
+listed_empty n xs = let l = length-map xs Some in record { low = omega arith; empty = λ i a b. padded_past None (map Some xs) n i (omega arith) }
 
 counted_of : (a : Answer) → Counted (decision_of a)
-unfolding decision_of
-counted_of (next x) = record { notes = padded_empty no_note layout.notes x.notes; endings = padded_empty no_ending layout.endings x.endings }
-counted_of (wants node field from state) = record { notes = padded_empty no_note layout.notes []; endings = padded_empty no_ending layout.endings [] }
-counted_of (refused number item) = record { notes = padded_empty no_note layout.notes []; endings = padded_empty no_ending layout.endings [] }
+unfolding decision_of listed
+counted_of (next x) = record { notes = listed_empty layout.notes x.notes; endings = listed_empty layout.endings x.endings }
+counted_of (wants node field from state) = record { notes = listed_empty layout.notes []; endings = listed_empty layout.endings [] }
+counted_of (refused number item) = record { notes = listed_empty layout.notes []; endings = listed_empty layout.endings [] }
 
 pub counted : {d : Decision} (a : Answer) → d ≡ decision_of a → Counted d
 counted a e = rw e (counted_of a)
 
 -- THE WHOLE ANSWER: what stands in front of the record, and the record or zeros.
 module _ (d : Decision) {l₀ : List ℕ} where
-  pub front_written : {a b c e l numbers : List ℕ} → layout.answer_length ≤ length l₀ → length d.notes ≡ layout.notes → length d.endings ≡ layout.endings → a ≡ splice l₀ 0 (replicate layout.answer_length 0) → numbers ≡ answer_numbers d.answer → b ≡ splice a layout.answer_kind numbers → c ≡ splice b layout.answer_noted (d.note_count ∷ d.ending_count ∷ []) → RowsWritten note_numbers no_note d.notes layout.notes layout.answer_notes c e → RowsWritten ending_numbers no_ending d.endings layout.endings layout.answer_endings e l → WroteIn l₀ 0 (front_numbers d) layout.answer_record layout.record_length l
+  pub front_written : {a b c e l numbers : List ℕ} → layout.answer_length ≤ length l₀ → length d.notes.rows ≡ layout.notes → length d.endings.rows ≡ layout.endings → a ≡ splice l₀ 0 (replicate layout.answer_length 0) → numbers ≡ answer_numbers d.answer → b ≡ splice a layout.answer_kind numbers → c ≡ splice b layout.answer_noted (d.notes.count ∷ d.endings.count ∷ []) → RowsWritten note_row None d.notes.rows layout.notes layout.answer_notes c e → RowsWritten ending_row None d.endings.rows layout.endings layout.answer_endings e l → WroteIn l₀ 0 (front_numbers d) layout.answer_record layout.record_length l
   front_written {a} room noted ended cleared n first second third fourth =
       let w0 : WroteIn l₀ 0 [] 0 layout.answer_length a = wrote_zeros room cleared in
       let w1 = wrote_part w0 {m = layout.answer_length - layout.answer_noted} n (length_answer d.answer) refl (omega arith) first in
       let w2 = wrote_part w1 {m = layout.answer_length - layout.answer_notes} refl refl (omega arith) (omega arith) second in
-      let w3 = wrote_rows w2 layout.note_width {m = layout.answer_length - layout.answer_endings} length_note note_zeros noted (omega arith) (omega arith) third in
-      wrote_rows w3 layout.ending_width {m = layout.record_length} length_ending ending_zeros ended (omega arith) (omega arith) fourth
+      let w3 = wrote_rows w2 layout.note_width {m = layout.answer_length - layout.answer_endings} length_note_row refl noted (omega arith) (omega arith) third in
+      wrote_rows w3 layout.ending_width {m = layout.record_length} length_ending_row refl ended (omega arith) (omega arith) fourth
 
   module _ {l : List ℕ} (inv : WroteIn l₀ 0 (front_numbers d) layout.answer_record layout.record_length l) where
     pub refusal_written : is_refused d.answer ≡ true → l ≡ splice l₀ 0 (decision_numbers d)

@@ -6,8 +6,12 @@ use Rattle.workflow.specs.Refusal.{refusal_of}
 use Rattle.model.specs.declared.answer.ScheduleActivity.{ScheduleActivity}
 use Rattle.model.specs.declared.answer.RetryActivity.{RetryActivity}
 use Rattle.model.specs.declared.answer.Order.{Order}
+use Rattle.model.specs.declared.answer.Reason.{Reason}
+use Rattle.model.specs.declared.answer.Noted.{Noted}
 use Rattle.model.specs.declared.answer.Note.{Note}
+use Rattle.model.specs.declared.answer.Ended.{Ended}
 use Rattle.model.specs.declared.answer.Ending.{Ending}
+use Rattle.model.specs.declared.answer.Field.{Field}
 use Rattle.kernel.specs.Call.{Accepted, Answer, next, wants, refused}
 use Rattle.host.specs.Layout as layout
 use Rattle.host.specs.Layout.{note_place, ending_place}
@@ -43,19 +47,46 @@ order_from numbers =
     when eqb (at numbers layout.answer_order) 0 then None else
     when eqb (at numbers layout.answer_order) 1 then Some (Order.Schedule (schedule_from numbers)) else Some (Order.Retry (retry_from numbers))
 
--- A note and an ending.
+-- A note: its code says which it is, and what its values are.
+abbrev pub reason_from : (number : ℕ) → Reason
+reason_from number =
+    when eqb number 1 then Reason.Mismatch else
+    when eqb number 2 then Reason.NotUnknown else Reason.Undeclared
+
+unfoldable pub noted_from : (code a b c : ℕ) → Noted
+noted_from code a b c =
+    when eqb code 1 then Noted.Ignored a else
+    when eqb code 2 then Noted.Stale a b c else
+    when eqb code 3 then Noted.NotApplicable a b (reason_from c) else
+    when eqb code 4 then Noted.Overflow a else
+    when eqb code 5 then Noted.Unrouted a b else
+    when eqb code 6 then Noted.Unknown a b c else
+    when eqb code 7 then Noted.Stuck a b c else
+    when eqb code 8 then Noted.Retry a else Noted.Exhausted a b
+
 unfoldable pub note_from : List ℕ → ℕ → Note
 note_from numbers index =
     record {
-      code = at numbers (note_place index);
       node = at numbers (note_place index + 1);
-      a = at numbers (note_place index + 2);
-      b = at numbers (note_place index + 3);
-      c = at numbers (note_place index + 4);
+      noted = noted_from (at numbers (note_place index)) (at numbers (note_place index + 2)) (at numbers (note_place index + 3)) (at numbers (note_place index + 4));
     }
 
+-- An ending.
+abbrev pub ended_from : (number : ℕ) → Ended
+ended_from number =
+    when eqb number 1 then Ended.Routed else
+    when eqb number 2 then Ended.Unrouted else
+    when eqb number 3 then Ended.Overflow else
+    when eqb number 4 then Ended.Ignored else Ended.LeftOver
+
 unfoldable pub ending_from : List ℕ → ℕ → Ending
-ending_from numbers index = record { sequence = at numbers (ending_place index); ending = at numbers (ending_place index + 1) }
+ending_from numbers index = record { sequence = at numbers (ending_place index); ending = ended_from (at numbers (ending_place index + 1)) }
+
+-- The field of a want.
+abbrev pub field_from : (number : ℕ) → Field
+field_from number =
+    when eqb number 0 then Field.Input else
+    when eqb number 1 then Field.Params else Field.Output
 
 -- A next record, with as many notes and endings as their counts say; a want; a refusal.
 unfoldable pub accepted_from : List ℕ → Accepted
@@ -72,5 +103,5 @@ unfoldable pub answer_of_numbers : List ℕ → Answer
 answer_of_numbers numbers =
     when eqb (at numbers layout.answer_kind) 1 then next (accepted_from numbers) else
     when eqb (at numbers layout.answer_kind) 2 then
-    wants (at numbers layout.answer_want_node) (at numbers layout.answer_want_field) (at numbers layout.answer_want_from) (record_of (drop layout.answer_record numbers))
+    wants (at numbers layout.answer_want_node) (field_from (at numbers layout.answer_want_field)) (at numbers layout.answer_want_from) (record_of (drop layout.answer_record numbers))
     else refused (refusal_of (at numbers layout.answer_refusal_number)) (at numbers layout.answer_refusal_item)

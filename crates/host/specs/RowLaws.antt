@@ -1,5 +1,6 @@
 -- Laws of rows: how many numbers each has, and which are the empty ones, by their digits.
-use Rattle.std.specs.Prelude.{◌≡◌, refl, ℕ, length, bit_or}
+use Rattle.std.specs.Prelude.{◌≡◌, refl, List, Option, Some, None, ℕ, length, bit_or}
+use Rattle.std.proofs.lemmas.List.{length-replicate}
 use Rattle.std.proofs.Common.{arith}
 use Rattle.std.specs.Int.Bits.{or_add_and}
 use Rattle.std.proofs.lemmas.Nat.{and_le_l, and_le_r}
@@ -8,13 +9,19 @@ use Rattle.model.specs.declared.BufferedSignal.{BufferedSignal}
 use Rattle.model.specs.declared.Visits.{Visits}
 use Rattle.model.specs.declared.Streak.{Streak}
 use Rattle.model.specs.declared.NodeResult.{NodeResult}
+use Rattle.model.specs.declared.answer.Noted.{Noted}
 use Rattle.model.specs.declared.answer.Note.{Note}
 use Rattle.model.specs.declared.answer.Ending.{Ending}
-use Rattle.model.specs.Answers.{output_numbers}
+use Rattle.model.specs.Answers.{output_numbers, noted_numbers, note_numbers, ending_numbers}
 use Rattle.model.specs.Record.{no_signal, no_visits, no_streak, no_node_result}
 use Rattle.host.specs.Layout.{signal_width, streak_width, result_width, note_width, ending_width, output_width}
-use Rattle.host.specs.Write.{signal_numbers, visits_numbers, streak_numbers, result_numbers, note_numbers, ending_numbers}
+use Rattle.host.specs.Write.{option_numbers, signal_numbers, visits_numbers, streak_numbers, result_numbers, note_row, ending_row}
 use Rattle.host.specs.WriteRows.{signal_digits, visits_digits, streak_digits, output_digits, result_digits}
+
+-- A row that may be absent.
+pub option_wide : {A : Type 0} (f : A → List ℕ) (width : ℕ) → ((x : A) → length (f x) ≡ width) → (o : Option A) → length (option_numbers f width o) ≡ width
+option_wide f width wide None = length-replicate {A = ℕ} width 0
+option_wide f width wide (Some x) = wide x
 
 pub length_output : (x : Output) → length (output_numbers x) ≡ output_width
 unfolding output_numbers
@@ -38,13 +45,30 @@ pub length_result : (x : NodeResult) → length (result_numbers x) ≡ result_wi
 unfolding result_numbers
 length_result x = rw (length_output x.output)
 
+length_noted : (node : ℕ) (x : Noted) → length (noted_numbers node x) ≡ note_width
+length_noted node (Noted.Ignored kind) = refl
+length_noted node (Noted.Stale named visit attempt) = refl
+length_noted node (Noted.NotApplicable named visit reason) = refl
+length_noted node (Noted.Overflow event_id) = refl
+length_noted node (Noted.Unrouted event_id outcome) = refl
+length_noted node (Noted.Unknown visit attempt status) = refl
+length_noted node (Noted.Stuck visit attempt code) = refl
+length_noted node (Noted.Retry attempt) = refl
+length_noted node (Noted.Exhausted outcome limit) = refl
+
 pub length_note : (x : Note) → length (note_numbers x) ≡ note_width
 unfolding note_numbers
-length_note x = refl
+length_note x = length_noted x.node x.noted
 
 pub length_ending : (x : Ending) → length (ending_numbers x) ≡ ending_width
 unfolding ending_numbers
 length_ending x = refl
+
+pub length_note_row : (x : Option Note) → length (note_row x) ≡ note_width
+length_note_row = option_wide note_numbers note_width length_note
+
+pub length_ending_row : (x : Option Ending) → length (ending_row x) ≡ ending_width
+length_ending_row = option_wide ending_numbers ending_width length_ending
 
 -- EMPTY ROWS. Digits joined are 0 only if all are.
 pub or_both : (a b : ℕ) → bit_or a b ≡ 0 → (a ≡ 0) × (b ≡ 0)

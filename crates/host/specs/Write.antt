@@ -1,5 +1,5 @@
 -- How a run record, an event and an answer stand as numbers (docs/NUMBERS.md).
-use Rattle.std.specs.Prelude.{Bool, ℕ, replicate}
+use Rattle.std.specs.Prelude.{Bool, ℕ, Option, Some, None, replicate}
 use mathlib.Core.List.{List, [], ◌∷◌, ◌++◌, flat_map}
 use Rattle.laws.specs.Bool.{when◌then◌else◌}
 use Rattle.model.specs.declared.BufferedSignal.{BufferedSignal}
@@ -12,8 +12,8 @@ use Rattle.model.specs.declared.answer.Ending.{Ending}
 use Rattle.model.specs.declared.answer.Answer.{Answer}
 use Rattle.model.specs.declared.event.Event.{Event}
 use Rattle.kernel.specs.declared.Decision.{Decision}
-use Rattle.host.specs.Layout.{record_length}
-use Rattle.model.specs.Answers.{output_numbers, kept_numbers, answer_numbers}
+use Rattle.host.specs.Layout.{record_length, note_width, ending_width}
+use Rattle.model.specs.Answers.{output_numbers, kept_numbers, note_numbers, ending_numbers, answer_numbers}
 
 -- Rows.
 unfoldable pub signal_numbers : BufferedSignal → List ℕ
@@ -28,11 +28,16 @@ streak_numbers streak = streak.outcome ∷ streak.count ∷ []
 unfoldable pub result_numbers : NodeResult → List ℕ
 result_numbers result = result.visit ∷ result.outcome ∷ output_numbers result.output
 
-unfoldable pub note_numbers : Note → List ℕ
-note_numbers note = note.code ∷ note.node ∷ note.a ∷ note.b ∷ note.c ∷ []
+-- a row that is not there is zeros
+abbrev pub option_numbers : {A : Type 0} → (A → List ℕ) → (width : ℕ) → Option A → List ℕ
+option_numbers numbers width None = replicate width 0
+option_numbers numbers width (Some row) = numbers row
 
-unfoldable pub ending_numbers : Ending → List ℕ
-ending_numbers ending = ending.sequence ∷ ending.ending ∷ []
+abbrev pub note_row : Option Note → List ℕ
+note_row = option_numbers note_numbers note_width
+
+abbrev pub ending_row : Option Ending → List ℕ
+ending_row = option_numbers ending_numbers ending_width
 
 -- THE RUN RECORD.
 unfoldable pub scalar_numbers : State → List ℕ
@@ -67,5 +72,5 @@ state_numbers (Answer.Refused refusal item) state = replicate record_length 0
 
 unfoldable pub decision_numbers : Decision → List ℕ
 decision_numbers decision =
-    answer_numbers decision.answer ++ (decision.note_count ∷ decision.ending_count ∷ [])
-    ++ flat_map note_numbers decision.notes ++ flat_map ending_numbers decision.endings ++ state_numbers decision.answer decision.state
+    answer_numbers decision.answer ++ (decision.notes.count ∷ decision.endings.count ∷ [])
+    ++ flat_map note_row decision.notes.rows ++ flat_map ending_row decision.endings.rows ++ state_numbers decision.answer decision.state

@@ -1,5 +1,5 @@
 -- Rows written by count, over zeros: rows that are left out are empty, so that their numbers are the zeros that stand there.
-use Rattle.std.specs.Prelude.{◌≡◌, Bool, true, false, get_or, length, bit_or}
+use Rattle.std.specs.Prelude.{◌≡◌, None, Bool, true, false, get_or, length, bit_or}
 use mathlib.Core.List.{List, [], ◌∷◌, ◌++◌, flat_map}
 use Prim.Native.Nat.{ℕ, ◌≤◌, ◌<◌, min}
 use Rattle.std.proofs.Math.ListN.{take}
@@ -9,11 +9,10 @@ use Rattle.model.specs.declared.Visits.{Visits}
 use Rattle.model.specs.declared.Streak.{Streak}
 use Rattle.model.specs.declared.NodeResult.{NodeResult}
 use Rattle.model.specs.declared.answer.Answer as code
-use Rattle.model.specs.Step.{no_note, no_ending}
 use Rattle.kernel.specs.declared.Decision.{Decision}
 use Rattle.model.specs.Answers.{answer_numbers}
 use Rattle.host.specs.Layout as layout
-use Rattle.host.specs.Write.{note_numbers, ending_numbers}
+use Rattle.host.specs.Write.{note_row, ending_row}
 
 -- From a count on every row of an array of n is the empty one.
 pub record EmptyPast {A : Type 0} (d : A) (xs : List A) (n rows : ℕ) : Type 0 where
@@ -46,7 +45,7 @@ result_digits result = bit_or (bit_or result.visit result.outcome) (output_digit
 
 -- THE ANSWER. What stands before its record.
 abbrev pub front_numbers : Decision → List ℕ
-front_numbers d = answer_numbers d.answer ++ (d.note_count ∷ d.ending_count ∷ []) ++ flat_map note_numbers d.notes ++ flat_map ending_numbers d.endings
+front_numbers d = answer_numbers d.answer ++ (d.notes.count ∷ d.endings.count ∷ []) ++ flat_map note_row d.notes.rows ++ flat_map ending_row d.endings.rows
 
 -- Whether it is a refusal, which has no record.
 abbrev pub is_refused : code.Answer → Bool
@@ -56,5 +55,5 @@ is_refused (code.Answer.Refused refusal item) = true
 
 -- A decision's arrays are empty past their counts.
 pub record Counted (d : Decision) : Type 0 where
-  pub notes : EmptyPast no_note d.notes layout.notes (min layout.notes d.note_count)
-  pub endings : EmptyPast no_ending d.endings layout.endings (min layout.endings d.ending_count)
+  pub notes : EmptyPast None d.notes.rows layout.notes (min layout.notes d.notes.count)
+  pub endings : EmptyPast None d.endings.rows layout.endings (min layout.endings d.endings.count)

@@ -1,5 +1,5 @@
 // The rows of a run record and of an answer: how each stands as numbers (docs/NUMBERS.md).
-#![tactic(auto, unfolding(crate::specs::Read::signal_of, crate::specs::Read::visits_of, crate::specs::Read::streak_of, crate::specs::Read::result_of, crate::specs::Write::signal_numbers, crate::specs::Write::streak_numbers, crate::specs::Write::note_numbers, crate::specs::Write::ending_numbers, crate::specs::WriteRows::signal_digits, crate::specs::WriteRows::visits_digits, crate::specs::WriteRows::streak_digits, crate::specs::WriteRows::result_digits))]
+#![tactic(auto, unfolding(crate::specs::Read::signal_of, crate::specs::Read::visits_of, crate::specs::Read::streak_of, crate::specs::Read::result_of, crate::specs::Write::signal_numbers, crate::specs::Write::streak_numbers, crate::specs::WriteRows::signal_digits, crate::specs::WriteRows::visits_digits, crate::specs::WriteRows::streak_digits, crate::specs::WriteRows::result_digits))]
 
 ghost use Rattle.std.specs.Prelude.{◌≡◌, List, ℕ, ◌+◌, ◌*◌, ◌≤◌, ◌<◌, length};
 ghost use mathlib.Core.List.{flat_map};
@@ -8,9 +8,10 @@ ghost use Rattle.laws.specs.Rows.{span};
 ghost use Rattle.model.specs.Record.{no_signal, no_visits, no_streak, no_node_result};
 ghost use Rattle.host.specs.Layout.{store, nodes, signal_width, streak_width, result_width, note_width, ending_width};
 ghost use Rattle.host.specs.Read.{signal_of, visits_of, streak_of, result_of};
-ghost use Rattle.host.specs.Write.{signal_numbers, visits_numbers, streak_numbers, result_numbers, note_numbers, ending_numbers};
+ghost use Rattle.model.specs.Answers.{note_numbers, ending_numbers};
+ghost use Rattle.host.specs.Write.{option_numbers, signal_numbers, visits_numbers, streak_numbers, result_numbers};
 ghost use Rattle.host.specs.WriteRows.{signal_digits, visits_digits, streak_digits, result_digits, Leading};
-ghost use Rattle.host.specs.RowLaws.{length_signal, length_visits, length_streak, length_result, length_note, length_ending, signal_is, visits_is, streak_is, result_is};
+ghost use Rattle.host.specs.RowLaws.{option_wide, length_signal, length_visits, length_streak, length_result, length_note, length_ending, signal_is, visits_is, streak_is, result_is};
 
 use crate::layout;
 use crate::read::{number_at, output};
@@ -241,14 +242,7 @@ impl Row for Note {
     const WIDTH: usize = layout::NOTE_WIDTH;
 
     fn write(&self, out: &mut [u64]) {
-        let row = [
-            u64::from(self.code),
-            u64::from(self.node),
-            u64::from(self.a),
-            u64::from(self.b),
-            u64::from(self.c),
-        ];
-        write(out, &row);
+        write(out, &self.numbers());
     }
 }
 
@@ -262,8 +256,25 @@ impl Row for Ending {
     const WIDTH: usize = layout::ENDING_WIDTH;
 
     fn write(&self, out: &mut [u64]) {
-        let row = [self.sequence, u64::from(self.ending)];
-        write(out, &row);
+        write(out, &self.numbers());
+    }
+}
+
+// A row that is not there is zeros.
+impl<T: Row> Row for Option<T> {
+    ghost numbers = { option_numbers T.numbers T.WIDTH };
+
+    ghost WIDTH = { T.WIDTH };
+
+    ghost wide = { option_wide T.numbers T.WIDTH T.wide };
+
+    const WIDTH: usize = T::WIDTH;
+
+    fn write(&self, out: &mut [u64]) {
+        match self {
+            Some(row) => row.write(out),
+            None => out[..T::WIDTH].fill(0),
+        }
     }
 }
 

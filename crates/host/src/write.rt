@@ -127,11 +127,11 @@ fn write_front(out: &mut [u64], d: &Decision)
     requires { (answer_length ≤ length out.old) × Counted d.now }
     ensures { out.new ≡ splice out.old 0 (front_numbers d.now ++ replicate record_length 0) }
 {
-    let counts = [u64::from(d.note_count), u64::from(d.ending_count)];
-    let notes: &[Note] = &d.notes;
-    let endings: &[Ending] = &d.endings;
-    let noted = capped(d.note_count, layout::NOTES);
-    let ended = capped(d.ending_count, layout::ENDINGS);
+    let counts = [u64::from(d.notes.count), u64::from(d.endings.count)];
+    let notes: &[Option<Note>] = &d.notes.rows;
+    let endings: &[Option<Ending>] = &d.endings.rows;
+    let noted = capped(d.notes.count, layout::NOTES);
+    let ended = capped(d.endings.count, layout::ENDINGS);
     out[..layout::ANSWER].fill(0);
     write(out, &d.answer.numbers());
     write(&mut out[layout::ANSWER_NOTED..], &counts);

@@ -4,7 +4,7 @@
 
 use graph::Ceilings;
 use kernel::{Call, Decision, Limits};
-use model::answer::{Answer, Order};
+use model::answer::{Answer, Ended, Note, Noted, Order};
 use model::event::{Event, Mapping, Mappings};
 use model::{Position, State, code};
 use std::{fmt, io};
@@ -80,28 +80,32 @@ fn status_word(status: u32) -> &'static str {
     }
 }
 
-fn ending_word(ending: u32) -> &'static str {
+fn ending_word(ending: Ended) -> &'static str {
     match ending {
-        code::END_ROUTED => "routed",
-        code::END_UNROUTED => "unrouted",
-        code::END_OVERFLOW => "overflow",
-        _ => "ignored",
+        Ended::Routed => "routed",
+        Ended::Unrouted => "unrouted",
+        Ended::Overflow => "overflow",
+        Ended::Ignored => "ignored",
+        Ended::LeftOver => "left over",
     }
 }
 
-// A note's code in words.
+// The line of a note: its code in words, and its values.
 #[derive(Drop)]
-struct NoteWord(u32);
+struct NoteLine(Note);
 
-impl fmt::Display for NoteWord {
+impl fmt::Display for NoteLine {
     fn fmt<W: fmt::Write>(&self, f: &mut fmt::Formatter<W>) -> fmt::Result {
-        match self.0 {
-            code::NOTE_IGNORED => f.write_str("ignored, the run has ended"),
-            code::NOTE_STALE => f.write_str("stale result"),
-            code::NOTE_UNROUTED => f.write_str("unrouted signal"),
-            code::NOTE_EXHAUSTED => f.write_str("loop exhausted"),
-            other => write!(f, "number {other}"),
+        let [code, _, a, b, c] = self.0.numbers();
+        f.write_str("  note: ")?;
+        match self.0.noted {
+            Noted::Ignored { .. } => f.write_str("ignored, the run has ended")?,
+            Noted::Stale { .. } => f.write_str("stale result")?,
+            Noted::Unrouted { .. } => f.write_str("unrouted signal")?,
+            Noted::Exhausted { .. } => f.write_str("loop exhausted")?,
+            _ => write!(f, "number {code}")?,
         }
+        writeln!(f, " ({a}, {b}, {c})")
     }
 }
 
@@ -154,17 +158,18 @@ impl fmt::Display for Shown<'_> {
                 if let Some(order) = order {
                     write!(f, "{}", OrderLine(order))?;
                 }
-                for note in decision.notes.iter().take(decision.note_count as usize) {
-                    let word = NoteWord(note.code);
-                    writeln!(f, "  note: {word} ({}, {}, {})", note.a, note.b, note.c)?;
+                for note in decision.notes.rows.iter().flatten() {
+                    write!(f, "{}", NoteLine(*note))?;
                 }
-                for it in decision.endings.iter().take(decision.ending_count as usize) {
+                for it in decision.endings.rows.iter().flatten() {
                     let word = ending_word(it.ending);
                     writeln!(f, "  signal {}: {word}", it.sequence)?;
                 }
                 Ok(())
             }
-            Answer::Wants { node, field, .. } => writeln!(f, "wants field {field} of node {node}"),
+            Answer::Wants { node, field, .. } => {
+                writeln!(f, "wants field {} of node {node}", field.number())
+            }
             Answer::Refused { refusal, item } => {
                 writeln!(f, "refused with {}, item {item}", refusal.number())
             }

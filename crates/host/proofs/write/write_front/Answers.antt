@@ -9,8 +9,8 @@ use Rattle.host.proofs.write.write_front.Goals as goal
 pub returns : goal.returns
 returns c =
     let d = c.args.d.now in
-    let noted : length d.notes ≡ notes = search (rules, length_field) depth 7 in
-    let ended : length d.endings ≡ endings = search (rules, length_field) depth 7 in
+    let noted : length d.notes.rows ≡ notes = search (rules, length_field) depth 7 in
+    let ended : length d.endings.rows ≡ endings = search (rules, length_field) depth 7 in
     let h = c.requires in
     let cleared = zeroed answer_length _ _ h.0 (c.fill.ensures.after (λ y k. search rules)) in
     let counts = put_spliced _ _ _ answer_noted (omega arith) (rw (c.from.ensures, c.from-2.ensures) at c.write-2.ensures) in
