@@ -4,7 +4,7 @@ ghost use Rattle.model.specs.Answers.{params_numbers, order_numbers, answer_numb
 
 use workflow::refusal::Refusal;
 
-#[derive(Clone, Copy)]
+#[derive(Clone, Copy, Debug, PartialEq, Eq)]
 pub struct ScheduleActivity {
     pub not_before: u64,
     pub node: u32,
@@ -16,7 +16,7 @@ pub struct ScheduleActivity {
     pub params: Option<u32>,
 }
 
-#[derive(Clone, Copy)]
+#[derive(Clone, Copy, Debug, PartialEq, Eq)]
 pub struct RetryActivity {
     pub not_before: u64,
     pub node: u32,
@@ -25,13 +25,13 @@ pub struct RetryActivity {
 }
 
 // The command of a call.
-#[derive(Clone, Copy)]
+#[derive(Clone, Copy, Debug, PartialEq, Eq)]
 pub enum Order {
     Schedule(ScheduleActivity),
     Retry(RetryActivity),
 }
 
-#[derive(Clone, Copy)]
+#[derive(Clone, Copy, Debug, PartialEq, Eq)]
 pub struct Note {
     pub code: u32,
     pub node: u32,
@@ -41,14 +41,14 @@ pub struct Note {
 }
 
 // How a signal, known by its sequence number, ended: 1 routed, 2 unrouted, 3 overflow, 4 ignored, 5 left over.
-#[derive(Clone, Copy)]
+#[derive(Clone, Copy, Debug, PartialEq, Eq)]
 pub struct Ending {
     pub sequence: u64,
     pub ending: u32,
 }
 
 // One of three: a next record with its order and microsteps; a want of one mapping value; a refusal.
-#[derive(Clone, Copy)]
+#[derive(Clone, Copy, Debug, PartialEq, Eq)]
 pub enum Answer {
     Next {
         order: Option<Order>,

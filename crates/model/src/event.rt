@@ -2,7 +2,7 @@
 
 // One event. Fields that its kind doesn't read are ignored.
 // Kept: kind, status and resolution are numbers, since a call takes any and refuses what it doesn't know with 21; an error's mark stands beside its numbers as a host lends them (a).
-#[derive(Clone, Copy)]
+#[derive(Clone, Copy, Debug, PartialEq, Eq)]
 pub struct Event {
     pub sequence: u64,
     pub accepted_at: u64,
@@ -30,7 +30,7 @@ pub struct Event {
 
 // One mapping answer: 1 a value, 2 a fault, 3 unencodable.
 // Kept: kind is a number, since a call takes any and refuses what it doesn't know with 21 (a).
-#[derive(Clone, Copy)]
+#[derive(Clone, Copy, Debug, PartialEq, Eq)]
 pub struct Mapping {
     pub kind: u32,
     pub value: u32,
@@ -41,14 +41,14 @@ pub struct Mapping {
 
 // The mapping answers of a call; those at or past the count are ignored.
 // Kept: an array with its count, in fixed memory (a).
-#[derive(Clone, Copy)]
+#[derive(Clone, Copy, Debug, PartialEq, Eq)]
 pub struct Mappings {
     pub answers: [Mapping; 2],
     pub count: u32,
 }
 
 // Why a mapping has no value.
-#[derive(Clone, Copy)]
+#[derive(Clone, Copy, Debug, PartialEq, Eq)]
 pub enum NoValue {
     Fault { code: u32, detail: u32 },
     Unencodable,

@@ -20,7 +20,7 @@ ghost use Rattle.model.specs.Step.{position};
 use workflow::code as sheet;
 use workflow::layout::NODES;
 
-#[derive(Clone, Copy)]
+#[derive(Clone, Copy, Debug, PartialEq, Eq)]
 pub struct ErrorInfo {
     pub code: u32,
     pub node: u32,
@@ -29,14 +29,14 @@ pub struct ErrorInfo {
 
 // What a node or a run yielded: a handle or an error, or nothing so far.
 // Kept: document 01 has these three cases; an `Option<Result<..>>` says the same in more words, and makes each of the 64 results larger (d).
-#[derive(Clone, Copy)]
+#[derive(Clone, Copy, Debug, PartialEq, Eq)]
 pub enum Output {
     Nothing,
     Handle(u32),
     Error(ErrorInfo),
 }
 
-#[derive(Clone, Copy)]
+#[derive(Clone, Copy, Debug, PartialEq, Eq)]
 pub struct RunResult {
     pub output: Output,
 }
@@ -51,20 +51,20 @@ pub struct BufferedSignal {
 }
 
 // How often a node was entered.
-#[derive(Clone, Copy)]
+#[derive(Clone, Copy, Debug, PartialEq, Eq)]
 pub struct Visits {
     pub count: u32,
 }
 
 // How often in a row a node routed a limited outcome; count 0 for none.
-#[derive(Clone, Copy)]
+#[derive(Clone, Copy, Debug, PartialEq, Eq)]
 pub struct Streak {
     pub outcome: u32,
     pub count: u32,
 }
 
 // A node's latest result; its output is `Nothing` where it has none.
-#[derive(Clone, Copy)]
+#[derive(Clone, Copy, Debug, PartialEq, Eq)]
 pub struct NodeResult {
     pub visit: u32,
     pub outcome: u32,
@@ -72,7 +72,7 @@ pub struct NodeResult {
 }
 
 // The node where the run stands; 255 and 0 for none.
-#[derive(Clone, Copy)]
+#[derive(Clone, Copy, Debug, PartialEq, Eq)]
 pub struct Position {
     pub node: u32,
     pub visit: u32,
@@ -80,7 +80,7 @@ pub struct Position {
 
 // The outstanding invocation; phase 0, node 255 and zeros for none.
 // Kept: phase is a number, since a call takes a record with any number and refuses it with 25 (a).
-#[derive(Clone, Copy)]
+#[derive(Clone, Copy, Debug, PartialEq, Eq)]
 pub struct InvocationState {
     pub phase: u32,
     pub node: u32,
@@ -95,7 +95,7 @@ pub struct InvocationState {
 
 // The run record. Signals are stored oldest first; visits, streaks and results are by node.
 // Kept: arrays beside their count, and status a number: document 01's record in fixed memory, which a call takes with any numbers and refuses with 25 (a).
-#[derive(Clone, Copy)]
+#[derive(Clone, Copy, Debug, PartialEq, Eq)]
 pub struct State {
     pub signals: [BufferedSignal; code::STORE],
     pub visits: [Visits; NODES],

@@ -7,7 +7,7 @@ use crate::answer::{Ending, Note, Order};
 use workflow::refusal::Refusal;
 
 // What comes after a move.
-#[derive(Clone, Copy)]
+#[derive(Clone, Copy, Debug, PartialEq, Eq)]
 pub enum Next {
     // nothing: the moves of this call are over
     Rest,
@@ -24,7 +24,7 @@ pub enum Next {
 }
 
 // The next record and what comes after, with at most one note, one ending and one order, and how many mapping answers were read.
-#[derive(Clone, Copy)]
+#[derive(Clone, Copy, Debug, PartialEq, Eq)]
 pub struct Move {
     pub state: State,
     pub next: Next,
