@@ -26,13 +26,6 @@ use Rattle.model.specs.declared.moves.Next.TheVariants.{Rest, Enter, Consume, Wa
 use Rattle.model.specs.declared.moves.Move.{Move}
 use Rattle.model.specs.Record.{no_streak, no_invocation, visits_of, streak_of, with_visits, with_streak, with_result, placed, finished}
 
--- What fills up a list of notes, and one of endings.
-abbrev pub no_note : Note
-no_note = record { code = 0; node = 0; a = 0; b = 0; c = 0 }
-
-abbrev pub no_ending : Ending
-no_ending = record { sequence = 0; ending = 0 }
-
 -- WHAT A MOVE SAYS.
 -- nothing but the record and what comes next
 abbrev pub still : State → Next → Move

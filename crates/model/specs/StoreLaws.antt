@@ -4,7 +4,7 @@ use Rattle.std.proofs.lemmas.Iterator.Adapters.{position_from-zero}
 use Rattle.std.proofs.lemmas.List.Quantifiers.{position-Some}
 use Rattle.std.proofs.lemmas.List.{drop_all, take_min}
 use Rattle.std.proofs.Math.Seq.{set-append_seam}
-use Rattle.std.specs.Prelude.{◌≡◌, Option, Some, None, Bool, get_or, set, take, drop, replicate, length, ltb, eqb}
+use Rattle.std.specs.Prelude.{◌≡◌, Option, Some, None, Bool, map, get_or, set, take, drop, replicate, length, ltb, eqb}
 use Rattle.std.proofs.Math.Path.{refl, sym, ap}
 use Rattle.std.proofs.Common.{◌∙◌, length-append, length-set, length-take, length-drop, take_all, take-suc-set, drop-set-lt, drop-cons, lt-ltb, le-leb, leb-true, ltb-true, ltb-false}
 use Rattle.std.proofs.Math.Bool.{true, false}
@@ -19,7 +19,7 @@ use Rattle.std.proofs.Math.Seq.{take-suc}
 use Rattle.laws.specs.Bool.{when◌then◌else◌, ◌and◌, if_true, both, join, split}
 use Rattle.laws.specs.First.{first}
 use Rattle.laws.specs.Every.{every, every_append, every_remove}
-use Rattle.laws.specs.Listing.{padded, Listing, listing_none, listing_more}
+use Rattle.laws.specs.Listing.{padded, set_padded, padded_none}
 use Rattle.laws.specs.Shift.{remove_at, without, take_without, drop_without, length_without}
 use Rattle.model.specs.Code.{store, largest, end_left_over}
 use Rattle.model.specs.Record.{no_signal, set_signals}
@@ -111,15 +111,15 @@ pub length_left : (xs : List BufferedSignal) → length (left_over xs) ≡ lengt
 unfolding left_over
 length_left xs = length-map xs _
 
-pub record Leaving (none : Ending) (signals : List BufferedSignal) (count : ℕ) (endings : List Ending) (i : ℕ) : Type 0 where
-  pub listed_so : Listing none store endings i (left_over (take i signals))
+pub record Leaving (signals : List BufferedSignal) (count : ℕ) (endings : List (Option Ending)) (i : ℕ) : Type 0 where
+  pub is : endings ≡ padded store None (map Some (left_over (take i signals)))
   pub low : i ≤ min store count
 
-pub leaving_none : {none : Ending} {signals : List BufferedSignal} {count : ℕ} → Leaving none signals count (replicate store none) 0
+pub leaving_none : {signals : List BufferedSignal} {count : ℕ} → Leaving signals count (replicate store None) 0
 unfolding left_over
-leaving_none {none} = record { listed_so = listing_none none; low = omega arith }
+leaving_none = record { is = padded_none None store; low = omega arith }
 
-module _ {none : Ending} {signals : List BufferedSignal} {count i : ℕ} {endings : List Ending} (l : Leaving none signals count endings i) (long : length signals ≡ 64) where
+module _ {signals : List BufferedSignal} {count i : ℕ} {endings : List (Option Ending)} (l : Leaving signals count endings i) (long : length signals ≡ 64) where
   abbrev left : Ending
   left = record { sequence = (get_or signals i no_signal).sequence; ending = end_left_over }
 
@@ -127,17 +127,23 @@ module _ {none : Ending} {signals : List BufferedSignal} {count i : ℕ} {ending
   unfolding left_over
   one_more_left h = rw (add-one, take-suc signals i no_signal (omega arith), map-append)
 
-  pub leaving_more : i < min store count → Leaving none signals count (set endings i left) (i + 1)
-  leaving_more h = record { listed_so = rw (one_more_left (omega arith)) (listing_more none left (omega arith) l.listed_so); low = omega arith }
+  pub leaving_more : i < min store count → Leaving signals count (set endings i (Some left)) (i + 1)
+  leaving_more h =
+      let so_far : List (Option Ending) = map Some (left_over (take i signals)) in
+      let n : length so_far ≡ i = omega (arith, length-map (left_over (take i signals)) Some, length_left (take i signals), length-take i signals) in
+      record {
+        is = rw (l.is, one_more_left (omega arith), map-append) (ap (λ j. set (padded store None so_far) j (Some left)) (sym n) ∙ set_padded None store so_far (Some left) (omega arith));
+        low = omega arith;
+      }
 
   all_taken : i ≡ min store count → take i signals ≡ take count signals
   all_taken e =
       split (ltb store count) (λ h. take_all i signals (omega (arith, ltb-true store count h)) ∙ sym (take_all count signals (omega (arith, ltb-true store count h))))
       (λ h. let g : i ≡ count = omega (arith, ltb-false store count h) in rw g)
 
-  pub leaving_all : min store count ≤ i → endings ≡ padded store none (left_over (listed signals count))
+  pub leaving_all : min store count ≤ i → endings ≡ padded store None (map Some (left_over (listed signals count)))
   unfolding listed
-  leaving_all h = l.listed_so.is ∙ rw (all_taken (omega (arith, l.low)))
+  leaving_all h = l.is ∙ rw (all_taken (omega (arith, l.low)))
 
 -- THE FIRST OF A NAME, where i is its place: the signal, and the record without it.
 unfoldable pub found_at : State → Option ℕ → Option BufferedSignal

@@ -1,6 +1,6 @@
 // What one move of a call hands back.
 ghost use Rattle.std.specs.Prelude.{◌≡◌};
-ghost use Rattle.model.specs.Step.{no_note, no_ending, still};
+ghost use Rattle.model.specs.Step.{still};
 
 use crate::State;
 use crate::answer::{Ending, Note, Order};
@@ -32,29 +32,6 @@ pub struct Move {
     pub ending: Option<Ending>,
     pub order: Option<Order>,
     pub read: u32,
-}
-
-// What fills up a list of notes.
-pub fn no_note() -> Note
-    ensures { result ≡ no_note }
-{
-    Note {
-        code: 0,
-        node: 0,
-        a: 0,
-        b: 0,
-        c: 0,
-    }
-}
-
-// What fills up a list of endings.
-pub fn no_ending() -> Ending
-    ensures { result ≡ no_ending }
-{
-    Ending {
-        sequence: 0,
-        ending: 0,
-    }
 }
 
 // Nothing but the record and what comes next.

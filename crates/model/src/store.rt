@@ -1,14 +1,12 @@
 // The stored signals: the first `signal_count` of the array, oldest first. Only this file knows where they sit.
 ghost use Rattle.std.specs.List.{list_all, position};
-ghost use Rattle.std.specs.Prelude.{◌≡◌, eqb};
+ghost use Rattle.std.specs.Prelude.{◌≡◌, eqb, map, Some, None};
 ghost use Rattle.laws.specs.Listing.{padded};
 ghost use Rattle.model.specs.Code.{store};
-ghost use Rattle.model.specs.Step.{no_ending};
 ghost use Rattle.model.specs.Store.{stored, first_signal, appended, leaves_over, left_over, emptied, in_sequence, signal_zero, store_fits};
 ghost use Rattle.model.specs.StoreLaws.{found_at, left_at};
 
 use crate::answer::Ending;
-use crate::moves::no_ending;
 use crate::{BufferedSignal, State, code, is_terminal};
 
 // The last place of the store.
@@ -43,16 +41,16 @@ impl State {
     }
 
     // The stored signals as left over, oldest first.
-    pub fn left_over(&self) -> [Ending; code::STORE]
-        ensures { result ≡ padded store no_ending (left_over (stored self.now)) }
+    pub fn left_over(&self) -> [Option<Ending>; code::STORE]
+        ensures { result ≡ padded store None (map Some (left_over (stored self.now))) }
     {
-        let mut endings = [no_ending(); code::STORE];
+        let mut endings = [None; code::STORE];
         let rows = workflow::capped(self.signal_count, code::STORE);
         for (i, signal) in self.signals[..rows].iter().enumerate() {
-            endings[i] = Ending {
+            endings[i] = Some(Ending {
                 sequence: signal.sequence,
                 ending: code::END_LEFT_OVER,
-            };
+            });
         }
         endings
     }

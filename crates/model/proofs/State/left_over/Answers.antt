@@ -7,7 +7,7 @@ use Rattle.model.specs.StoreLaws.{leaving_none, leaving_more, leaving_all}
 use Rattle.model.proofs.State.left_over.Goals as goal
 
 pub loop-i-init : goal.loop-i-init
-loop-i-init c = rw c.no_ending-endings.ensures leaving_none
+loop-i-init c = leaving_none
 
 pub offset_bounds-endings-i : goal.offset_bounds-endings-i
 offset_bounds-endings-i c = omega (arith, c.capped-rows.ensures, c.loop-i-test.true)
