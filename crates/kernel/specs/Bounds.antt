@@ -74,7 +74,7 @@ module _ (n : Next) (count h : ℕ) (same : (n ≡ Rest → ⊥) → count ≡ h
   at_first (Refuse k) e l a q = omega arith
 
 -- THE LISTS.
-length_added : {A : Type 0} (xs : List A) (o : Option A) → length (added xs o) ≡ length xs + takes o
+pub length_added : {A : Type 0} (xs : List A) (o : Option A) → length (added xs o) ≡ length xs + takes o
 unfolding added takes
 length_added xs None = omega arith
 length_added xs (Some x) = omega (arith, length-append xs (x ∷ []))

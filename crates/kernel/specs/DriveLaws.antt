@@ -6,14 +6,13 @@ use Rattle.std.proofs.Math.Path.{refl, sym, ap, subst}
 use Rattle.std.proofs.Common.{◌∙◌, eqb-true, lt-ltb, le-ltb, ltb-true, ltb-false}
 use Rattle.std.proofs.lemmas.Bool.{false≢true, eqb-false}
 use mathlib.Core.List.{List, [], ◌∷◌, ◌++◌}
+use mathlib.Core.Logic.{◌⊎◌, inl, inr}
 use Prim.Native.Nat.{ℕ, zero, suc, ◌+◌, ◌-◌, ◌*◌, ◌≤◌, ◌<◌}
 use native.Mathlib.Omega.{arith}
 use Rattle.std.proofs.Math.ListN.{length, length-append}
 use Rattle.laws.specs.Bool.{when◌then◌else◌, if_true, if_false, split, either}
 use Rattle.laws.specs.Settle.{settle, Settling, settle_rests, settled, settle_next}
 use Rattle.laws.specs.First.{first}
-use Rattle.laws.specs.Listing.{padded, Listing, listing_none, listing_more, listing_splice, take_padded}
-use Rattle.laws.specs.Splice.{splice}
 use Rattle.workflow.specs.View.{Workflow}
 use Rattle.workflow.specs.Lookup.{node_of}
 use Rattle.model.specs.declared.State.{State}
@@ -38,16 +37,19 @@ use Rattle.workflow.specs.declared.refusal.Refusal.{Refusal}
 use Rattle.model.specs.Code.{store}
 use Rattle.model.specs.Store.{listed as stored_as, stored, first_signal, signal_at, removed, leaves_over, left_over, emptied}
 use Rattle.model.specs.StoreLaws.{IsSlotted, stored_length, length_left}
-use Rattle.model.specs.Step.{still, no_note, no_ending, no_mapping, arrival, enter, follow_to, route_limited, route, take_by, take as take_signal}
+use Rattle.model.specs.Step.{still, no_mapping, arrival, enter, follow_to, route_limited, route, take_by, take as take_signal}
 use Rattle.model.specs.EnterLaws.{NoNode, entering}
 use Rattle.model.specs.RouteLaws.{consumed, taking}
 use Rattle.kernel.specs.Cost.{cost, takes, entered}
 use Rattle.machine.specs.Events.{apply}
 use Rattle.kernel.specs.Drive.{Machine, operations_of, added, moved, over_limit, counting, consume_by, advance_by, advance, moves_on, is_moving, driven}
-use Rattle.kernel.specs.Bounds.{none_more, Bounds, Bounded, fewer, bounded_advance, bounded_started}
+use Rattle.kernel.specs.Bounds.{none_more, length_added, Bounds, Bounded, fewer, bounded_advance, bounded_started}
 use Rattle.kernel.specs.Call as call
 use Rattle.kernel.specs.Call.{orders, wants, closed, finish_by, finish}
-use Rattle.kernel.specs.Decision.{decision_of}
+use Rattle.kernel.specs.declared.listed.Listed.{Listed}
+use Rattle.kernel.specs.Listed.{listed}
+use Rattle.kernel.specs.ListedLaws.{counted_is}
+use Rattle.kernel.specs.Decision.{decision, decision_of}
 
 -- THE CODE'S PARTS.
 -- A round: a signal is taken where one is to be, and the node that is then to be entered is. Its microsteps are the taking of a signal, which ends it, and the entry.
@@ -96,14 +98,20 @@ is_over Consume h = eqb h 0
 is_over (Wants n i b) h = true
 is_over (Refuse k) h = true
 
-pub over_else : (n : Next) (h : ℕ) → NoNode n → (n ≡ Take → ⊥) → (n ≡ Consume → ⊥) → true ≡ is_over n h
+pub over_rests : (n : Next) (h : ℕ) → (n ≡ Rest) ⊎ (((t : ℕ) × (i : ℕ) × (b : ℕ) × (n ≡ Wants t i b)) ⊎ ((r : Refusal) × (n ≡ Refuse r))) → true ≡ is_over n h
 unfolding is_over
-over_else (Enter n b) h x y z = absurd (x n b refl)
-over_else Take h x y z = absurd (y refl)
-over_else Consume h x y z = absurd (z refl)
-over_else Rest h x y z = refl
-over_else (Wants n i b) h x y z = refl
-over_else (Refuse k) h x y z = refl
+over_rests n h (inl e) = rw e
+over_rests n h (inr (inl (t, i, b, e))) = rw e
+over_rests n h (inr (inr (r, e))) = rw e
+
+pub over_none : (n : Next) (h : ℕ) → (n ≡ Rest → ⊥) → ((t i b : ℕ) → n ≡ Wants t i b → ⊥) → ((r : Refusal) → n ≡ Refuse r → ⊥) → (n ≡ Consume → ⊥) → false ≡ is_over n h
+unfolding is_over
+over_none Rest h x y z w = absurd (x refl)
+over_none (Enter n b) h x y z w = refl
+over_none Take h x y z w = refl
+over_none Consume h x y z w = absurd (w refl)
+over_none (Wants n i b) h x y z w = absurd (y n i b refl)
+over_none (Refuse k) h x y z w = absurd (z k refl)
 
 pub orders_byte : (o : Option Order) → bool_byte (is_some o) ≡ orders o
 orders_byte None = refl
@@ -135,24 +143,13 @@ answer_else (Enter t b) o l k q x y z w = refl
 answer_else Take o l k q x y z w = refl
 
 -- The close: what is still stored is left over, behind the other endings, and the store is empty.
-abbrev pub closing : List Note → List Ending → (note_count ending_count : ℕ) → State → Option Order → (microsteps : ℕ) → Decision
-closing ns es n k s o j =
-    record {
-      notes = ns;
-      endings = splice es k (left_over (stored s));
-      note_count = n;
-      ending_count = k + length (stored s);
-      answer = code.Answer.Next o j;
-      state = emptied s;
-    }
+abbrev pub closing : List Note → List Ending → State → Option Order → (microsteps : ℕ) → Decision
+closing ns es s o j = decision ns (es ++ left_over (stored s)) (code.Answer.Next o j) (emptied s)
 
-unfoldable pub decide : List Note → List Ending → (note_count ending_count : ℕ) → State → code.Answer → Decision
-decide ns es n k s (code.Answer.Next o j) =
-    when leaves_over s.status s.signal_count
-    then closing ns es n k s o j
-    else record { notes = ns; endings = es; note_count = n; ending_count = k; answer = code.Answer.Next o j; state = s }
-decide ns es n k s (code.Answer.Wants t i b) = decision_of (wants t i b s)
-decide ns es n k s (code.Answer.Refused r i) = decision_of (call.refused r i)
+unfoldable pub decide : List Note → List Ending → State → code.Answer → Decision
+decide ns es s (code.Answer.Next o j) = when leaves_over s.status s.signal_count then closing ns es s o j else decision ns es (code.Answer.Next o j) s
+decide ns es s (code.Answer.Wants t i b) = decision_of (wants t i b s)
+decide ns es s (code.Answer.Refused r i) = decision_of (call.refused r i)
 
 -- The operations of the answers that were read.
 module _ (xs : List Mapping) (two : length xs ≡ 2) where
@@ -180,39 +177,6 @@ module _ (xs : List Mapping) (two : length xs ≡ 2) where
       both (y ∷ (z ∷ [])) zero h = omega arith
       both (y ∷ (z ∷ [])) (suc i) h = omega arith
       both (y ∷ (z ∷ (w ∷ ys))) i h = absurd (omega arith)
-
--- The array and the count n hold the list xs, and have room for what is said.
-pub record Adding {A : Type 0} (d : A) (array : List A) (n : ℕ) (xs : List A) (said : Option A) : Type 0 where
-  pub are : Listing d 65 array n xs
-  pub fit : length (added xs said) ≤ 65
-
-module _ {A : Type 0} {d : A} {array : List A} {n : ℕ} {xs : List A} {o : Option A} (l : Adding d array n xs o) where
-  module _ {x : A} (said : o ≡ Some x) where
-    pub added_room : n < 65
-    unfolding added
-    added_room =
-        let w : length (xs ++ (x ∷ [])) ≤ 65 = rw said at l.fit in
-        omega (arith, length-append xs (x ∷ []), l.are.count)
-
-    pub added_one : {to : List A} {i : ℕ} → to ≡ set array n x → i ≡ n + 1 → Listing d 65 to i (added xs o)
-    unfolding added
-    added_one e g = rw (said, e, g) (listing_more d x added_room l.are)
-
-  pub added_none : {to : List A} {i : ℕ} → o ≡ None → to ≡ array → i ≡ n → Listing d 65 to i (added xs o)
-  unfolding added
-  added_none h e g = rw (h, e, g) l.are
-
--- THE CLOSE: what is left over is listed behind the endings.
--- All that is left over is listed.
-pub all_left : (s : State) → IsSlotted s → {left : List Ending} → left ≡ padded store no_ending (left_over (stored s)) → take s.signal_count left ≡ left_over (stored s)
-all_left s z e = ap (take s.signal_count) e ∙ take_padded no_ending store s.signal_count (left_over (stored s)) (length_left (stored s) ∙ stored_length s z)
-
-pub listed_left : {endings : List Ending} {k : ℕ} {es : List Ending} (s : State) → k + length (stored s) ≤ 65 → Listing no_ending 65 endings k es
-    → Listing no_ending 65 (splice endings k (left_over (stored s))) (k + length (stored s)) (es ++ left_over (stored s))
-listed_left {endings} {k} {es} s h l =
-    let left = left_over (stored s) in
-    let e = length_left (stored s) in
-    subst (λ n. Listing no_ending 65 (splice endings k left) (k + n) (es ++ left)) e (listing_splice no_ending left (omega arith) l)
 
 -- WHAT A TAKING SAYS: it ends its signal, orders nothing and reads no mapping answer.
 record Ends (v : Move) : Type 0 where
@@ -475,36 +439,36 @@ module _ (f : Workflow) (l : Limits) (e : Event) (m : Mappings) (v₀ : Round) w
   abbrev pub left_of : Round → (microsteps : ℕ) → ℕ
   left_of v j = 2 * (131 - (j + v.microsteps)) + going_on v.next
 
-  -- What stands at the head of the loop: the lists in their arrays, and a round that is made but neither counted nor listed.
-  pub record Driving (v : Round) (notes : List Note) (endings : List Ending) (note_count ending_count operations microsteps : ℕ) : Type 0 where
+  -- What stands at the head of the loop: the lists, and a round that is made but neither counted nor listed.
+  pub record Driving (v : Round) (notes : Listed Note) (endings : Listed Ending) (operations microsteps : ℕ) : Type 0 where
     pub ns : List Note
     pub es : List Ending
-    pub notes_are : Listing no_note 65 notes note_count ns
-    pub endings_are : Listing no_ending 65 endings ending_count es
+    pub notes_are : notes ≡ listed ns
+    pub endings_are : endings ≡ listed es
     pub going : microsteps + v.microsteps ≤ limit → Going (machine v.state v.next v.order (added ns v.note) (added es v.ending) (microsteps + v.microsteps) (operations + read_by v.read))
     pub over : limit < microsteps + v.microsteps → Over
     pub steps : microsteps + v.microsteps ≤ 130
     pub few : operations + left_of v microsteps * 8589934592 ≤ 263 * 8589934592
 
   -- The same where it has been counted and listed.
-  pub record Listed (v : Round) (notes : List Note) (endings : List Ending) (note_count ending_count operations microsteps : ℕ) : Type 0 where
+  pub record Counted (v : Round) (notes : Listed Note) (endings : Listed Ending) (operations microsteps : ℕ) : Type 0 where
     pub ns : List Note
     pub es : List Ending
-    pub notes_are : Listing no_note 65 notes note_count ns
-    pub endings_are : Listing no_ending 65 endings ending_count es
+    pub notes_are : notes ≡ listed ns
+    pub endings_are : endings ≡ listed es
     pub going : Going (machine v.state v.next v.order ns es microsteps operations)
     pub within : microsteps ≤ limit
     pub few : operations + (2 * (131 - microsteps) + going_on v.next) * 8589934592 ≤ 264 * 8589934592
 
-  pub driving_first : (x : Note) (y : Ending) → x ≡ no_note → y ≡ no_ending → Begins → Driving v₀ (replicate 65 x) (replicate 65 y) 0 0 0 0
-  driving_first x y h k b =
+  pub driving_first : {notes : Listed Note} {endings : Listed Ending} → notes ≡ listed [] → endings ≡ listed [] → Begins → Driving v₀ notes endings 0 0
+  driving_first h k b =
       let z = b.uncounted in
       let g = going_small v₀.next in
       record {
         ns = [];
         es = [];
-        notes_are = rw h (listing_none no_note);
-        endings_are = rw k (listing_none no_ending);
+        notes_are = h;
+        endings_are = k;
         going = λ w. rw z (record { runs = record { left = refl }; bounds = b.bounds });
         over = λ w. absurd (omega arith);
         steps = omega arith;
@@ -512,18 +476,27 @@ module _ (f : Workflow) (l : Limits) (e : Event) (m : Mappings) (v₀ : Round) w
       }
 
   -- The round is counted and listed.
-  module _ {v : Round} {notes : List Note} {endings : List Ending} {n k q j : ℕ} (d : Driving v notes endings n k q j) (w : j + v.microsteps ≤ limit) where
-    pub adding_note : Adding no_note notes n d.ns v.note
-    adding_note = record { are = d.notes_are; fit = omega (arith, (d.going w).bounds.few_notes) }
+  module _ {v : Round} {notes : Listed Note} {endings : Listed Ending} {q j : ℕ} (d : Driving v notes endings q j) (w : j + v.microsteps ≤ limit) where
+    pub note_room : notes.count + takes v.note ≤ 65
+    note_room = omega (arith, counted_is notes d.ns d.notes_are, length_added d.ns v.note, (d.going w).bounds.few_notes)
 
-    pub adding_ending : Adding no_ending endings k d.es v.ending
-    adding_ending = record { are = d.endings_are; fit = omega (arith, (d.going w).bounds.few_endings) }
+    pub ending_room : endings.count + takes v.ending ≤ 65
+    ending_room = omega (arith, counted_is endings d.es d.endings_are, length_added d.es v.ending, (d.going w).bounds.few_endings)
 
-    pub listed : {a : List Note} {b : List Ending} {i o : ℕ} → Listing no_note 65 a i (added d.ns v.note) → Listing no_ending 65 b o (added d.es v.ending)
-        → (r : ℕ) → r ≡ read_by v.read → r ≤ 8589934592 → Listed v a b i o (q + r) (j + v.microsteps)
-    listed x y r h z = record { ns = added d.ns v.note; es = added d.es v.ending; notes_are = x; endings_are = y; going = rw h (d.going w); within = w; few = omega (arith, d.few) }
+    pub counted : {a : Listed Note} {b : Listed Ending} → ((xs : List Note) → notes ≡ listed xs → a ≡ listed (added xs v.note)) → ((xs : List Ending) → endings ≡ listed xs → b ≡ listed (added xs v.ending))
+        → {r : ℕ} → r ≡ read_by v.read → r ≤ 8589934592 → Counted v a b (q + r) (j + v.microsteps)
+    counted x y h z =
+        record {
+          ns = added d.ns v.note;
+          es = added d.es v.ending;
+          notes_are = x d.ns d.notes_are;
+          endings_are = y d.es d.endings_are;
+          going = rw h (d.going w);
+          within = w;
+          few = omega (arith, d.few);
+        }
 
-  module _ {v : Round} {notes : List Note} {endings : List Ending} {n k q j : ℕ} (d : Listed v notes endings n k q j) where
+  module _ {v : Round} {notes : Listed Note} {endings : Listed Ending} {q j : ℕ} (d : Counted v notes endings q j) where
     -- A round follows.
     module _ (u : Round) (is : u ≡ round_of f v.state v.next (arrival e) m) (on : is_over v.next v.state.signal_count ≡ false) where
       the_turn : Turn v.state d.ns d.es j q d.within v.next u
@@ -542,7 +515,7 @@ module _ (f : Workflow) (l : Limits) (e : Event) (m : Mappings) (v₀ : Round) w
           let g = going_small u.next in
           split (eqb u.microsteps 0) (λ h. omega (arith, the_turn.quiet (eqb-true _ _ h), eqb-true u.microsteps 0 h)) (λ h. omega (arith, eqb-false u.microsteps 0 h))
 
-      pub driving_next : Driving u notes endings n k q j
+      pub driving_next : Driving u notes endings q j
       driving_next =
           record {
             ns = d.ns;
@@ -555,5 +528,5 @@ module _ (f : Workflow) (l : Limits) (e : Event) (m : Mappings) (v₀ : Round) w
             few = omega (arith, left_less, d.few);
           }
 
-    pub few_left : k + v.state.signal_count ≤ 65
-    few_left = omega (arith, d.endings_are.count, d.going.bounds.few_endings)
+    pub few_left : endings.count + v.state.signal_count ≤ 65
+    few_left = omega (arith, counted_is endings d.es d.endings_are, d.going.bounds.few_endings)

@@ -1,20 +1,23 @@
 // The moves of a call, one after the other, and its answer.
-ghost use Rattle.std.specs.Prelude.{◌≡◌, ◌+◌, ◌≤◌, take};
-ghost use Rattle.laws.specs.Splice.{splice};
+ghost use Rattle.std.specs.Prelude.{◌≡◌, ◌+◌, ◌≤◌, List, [], take};
+ghost use Rattle.model.specs.declared.answer.Note.{Note};
+ghost use Rattle.model.specs.declared.answer.Ending.{Ending};
 ghost use Rattle.workflow.specs.View.{workflow};
 ghost use Rattle.kernel.specs.Drive.{operations_of, driven};
 ghost use Rattle.kernel.specs.Cost.{takes};
-ghost use Rattle.kernel.specs.Call.{wants, refused, orders, finish};
-ghost use Rattle.kernel.specs.Decision.{decision_of};
+ghost use Rattle.kernel.specs.Call.{refused, orders, finish};
+ghost use Rattle.kernel.specs.Listed.{listed};
+ghost use Rattle.kernel.specs.Decision.{decision, decision_of};
 ghost use Rattle.kernel.specs.DriveLaws.{entries, round_of, is_over, closing, decide, rest_answer, answer_of, at_end, Begins};
 
-use crate::{Decision, Limits, code};
+use crate::listed::Listed;
+use crate::{Decision, Limits};
 use machine::events::arrival;
 use model::answer::{Answer, Ending, Note, Order};
 use model::event::{Event, Mappings};
-use model::moves::{Next, no_ending, no_note};
+use model::moves::Next;
 use model::store::leaves_over;
-use model::{BufferedSignal, State, code as record};
+use model::{BufferedSignal, State};
 use workflow::code::NONE;
 use workflow::layout::NUMBERS;
 use workflow::refusal::Refusal;
@@ -59,10 +62,7 @@ fn takes(ending: Option<Ending>) -> u32
 fn entries(next: Next) -> u32
     ensures { result ≡ entries next }
 {
-    match next {
-        Next::Enter { .. } => 1,
-        _ => 0,
-    }
+    u32::from(matches!(next, Next::Enter { .. }))
 }
 
 // A signal is taken where one is to be, and the node that is then to be entered is.
@@ -92,12 +92,8 @@ fn take_and_enter(
 fn is_over(next: Next, stored: u32) -> bool
     ensures { result ≡ is_over next stored }
 {
-    match next {
-        Next::Enter { .. } => false,
-        Next::Take => false,
-        Next::Consume => stored == 0,
-        _ => true,
-    }
+    matches!(next, Next::Rest | Next::Wants { .. } | Next::Refuse(_))
+        || (next == Next::Consume && stored == 0)
 }
 
 fn order_count(order: Option<Order>) -> u32
@@ -150,72 +146,42 @@ fn answer_of(
     }
 }
 
-// A refusal has its number and item, and nothing more.
-pub fn refusal(refusal: Refusal, item: u32) -> Decision
-    ensures { result ≡ decision_of (refused refusal item) }
+// An answer without notes and endings.
+fn bare(answer: Answer, state: State) -> Decision
+    ensures { result ≡ decision [] [] answer state }
 {
     Decision {
-        notes: [no_note(); code::LIST],
-        endings: [no_ending(); code::LIST],
-        note_count: 0,
-        ending_count: 0,
-        answer: Answer::Refused { refusal, item },
-        state: State::fresh(0),
-    }
-}
-
-// A want has the record at that moment, and no notes and endings.
-fn want(node: u32, field: u32, from: u32, state: State) -> Decision
-    ensures { result ≡ decision_of (wants node field from state) }
-{
-    Decision {
-        notes: [no_note(); code::LIST],
-        endings: [no_ending(); code::LIST],
-        note_count: 0,
-        ending_count: 0,
-        answer: Answer::Wants { node, field, from },
+        notes: Listed::none(),
+        endings: Listed::none(),
+        answer,
         state,
     }
 }
 
-// The first of some endings are listed behind the others.
-fn list_behind(
-    mut endings: [Ending; code::LIST],
-    ending_count: u32,
-    more: [Ending; record::STORE],
-    count: u32,
-) -> [Ending; code::LIST]
-    requires count_bound { ending_count + count ≤ 65 }
-    requires count_bound_2 { count ≤ 64 }
-    ensures { result ≡ splice endings ending_count (take count more) }
+// A refusal has its number and item, and nothing more.
+pub fn refusal(refusal: Refusal, item: u32) -> Decision
+    ensures { result ≡ decision_of (refused refusal item) }
 {
-    let from = ending_count as usize;
-    let n = count as usize;
-    endings[from..from + n].copy_from_slice(&more[..n]);
-    endings
+    bare(Answer::Refused { refusal, item }, State::fresh(0))
 }
 
 // The close: what is still stored is left over, behind the other endings, and the store is empty.
 fn close(
-    notes: [Note; code::LIST],
-    endings: [Ending; code::LIST],
-    note_count: u32,
-    ending_count: u32,
+    notes: Listed<Note>,
+    mut endings: Listed<Ending>,
     order: Option<Order>,
     microsteps: u32,
     state: State,
 ) -> Decision
-    requires signal_count_bound { ending_count + state.signal_count ≤ 65 }
+    requires signal_count_bound { endings.count + state.signal_count ≤ 65 }
     requires signal_count_bound_2 { state.signal_count ≤ 64 }
-    ensures { result ≡ closing notes endings note_count ending_count state order microsteps }
+    ensures { (ns : List Note) → (es : List Ending) → notes ≡ listed ns → endings ≡ listed es → result ≡ closing ns es state order microsteps }
 {
     let left = state.left_over();
-    let listed = list_behind(endings, ending_count, left, state.signal_count);
+    endings.append(&left[..state.signal_count as usize]);
     Decision {
         notes,
-        endings: listed,
-        note_count,
-        ending_count: ending_count + state.signal_count,
+        endings,
         answer: Answer::Next { order, microsteps },
         state: state.emptied(),
     }
@@ -223,40 +189,28 @@ fn close(
 
 // What an answer hands back: a want has no notes and no endings, a refusal no record besides; an accepted one is closed where signals are left over.
 fn decide(
-    notes: [Note; code::LIST],
-    endings: [Ending; code::LIST],
-    note_count: u32,
-    ending_count: u32,
+    notes: Listed<Note>,
+    endings: Listed<Ending>,
     answer: Answer,
     state: State,
 ) -> Decision
-    requires signal_count_bound { ending_count + state.signal_count ≤ 65 }
+    requires signal_count_bound { endings.count + state.signal_count ≤ 65 }
     requires signal_count_bound_2 { state.signal_count ≤ 64 }
-    ensures { result ≡ decide notes endings note_count ending_count state answer }
+    ensures { (ns : List Note) → (es : List Ending) → notes ≡ listed ns → endings ≡ listed es → result ≡ decide ns es state answer }
 {
     match answer {
         Answer::Next { order, microsteps } => {
             if leaves_over(state.status, state.signal_count) {
-                return close(
-                    notes,
-                    endings,
-                    note_count,
-                    ending_count,
-                    order,
-                    microsteps,
-                    state,
-                );
+                return close(notes, endings, order, microsteps, state);
             }
             Decision {
                 notes,
                 endings,
-                note_count,
-                ending_count,
-                answer: Answer::Next { order, microsteps },
+                answer,
                 state,
             }
         }
-        Answer::Wants { node, field, from } => want(node, field, from, state),
+        Answer::Wants { .. } => bare(answer, state),
         Answer::Refused { refusal: why, item } => refusal(why, item),
     }
 }
@@ -272,29 +226,22 @@ fn run(
     requires { Begins (workflow w.now) limits event mappings v }
     ensures { result ≡ decision_of (finish limits (at_end (workflow w.now) limits event mappings v)) }
 {
-    let mut notes: [Note; code::LIST] = [no_note(); code::LIST];
-    let mut endings: [Ending; code::LIST] = [no_ending(); code::LIST];
-    let mut note_count: u32 = 0;
-    let mut ending_count: u32 = 0;
+    let mut notes = Listed::none();
+    let mut endings = Listed::none();
     let mut operations: u64 = 0;
     let mut microsteps: u32 = 0;
+    // Kept: the rounds are no range and no list, for each follows from the one before (d).
     loop {
         microsteps += v.microsteps;
         if limits.microsteps < microsteps {
             return refusal(Refusal::MicrostepsExceeded, NONE);
         }
-        if let Some(note) = v.note {
-            notes[note_count as usize] = note;
-            note_count += 1;
-        }
-        if let Some(ending) = v.ending {
-            endings[ending_count as usize] = ending;
-            ending_count += 1;
-        }
+        notes.add(v.note);
+        endings.add(v.ending);
         operations += operations_of(mappings, v.read);
         if is_over(v.next, v.state.signal_count) {
             let answer = answer_of(v.next, v.order, limits, microsteps, operations);
-            return decide(notes, endings, note_count, ending_count, answer, v.state);
+            return decide(notes, endings, answer, v.state);
         }
         v = take_and_enter(w, v.state, v.next, arrival(event), mappings);
     }

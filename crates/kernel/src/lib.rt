@@ -3,6 +3,7 @@
 
 pub mod code;
 mod drive;
+pub mod listed;
 
 ghost use Rattle.std.specs.Prelude.{◌≡◌, ◌+◌, eqb};
 ghost use Rattle.workflow.specs.View.{workflow};
@@ -10,6 +11,7 @@ ghost use Rattle.kernel.specs.Call.{start_stage, next_stage, admission, transiti
 ghost use Rattle.kernel.specs.Decision.{decision_of};
 
 use graph::{Broken, Ceilings, rule};
+use listed::Listed;
 use model::answer::{Answer, Ending, Note};
 use model::event::{Event, Mappings};
 use model::{State, code as record};
@@ -17,7 +19,7 @@ use workflow::layout::NUMBERS;
 use workflow::refusal::Refusal;
 
 // The most that a call may count.
-#[derive(Clone, Copy)]
+#[derive(Clone, Copy, Debug, PartialEq, Eq)]
 pub struct Limits {
     pub microsteps: u32,
     pub commands: u32,
@@ -25,7 +27,7 @@ pub struct Limits {
 }
 
 // What a call carries beside the sheet and the record.
-#[derive(Clone, Copy)]
+#[derive(Clone, Copy, Debug, PartialEq, Eq)]
 pub struct Call {
     pub ceilings: Ceilings,
     pub limits: Limits,
@@ -34,12 +36,10 @@ pub struct Call {
 }
 
 // An answer with its lists and its record. A want has neither list; a refusal has the fresh record, which tells nothing.
-#[derive(Clone, Copy)]
+#[derive(Clone, Copy, Debug, PartialEq, Eq)]
 pub struct Decision {
-    pub notes: [Note; code::LIST],
-    pub endings: [Ending; code::LIST],
-    pub note_count: u32,
-    pub ending_count: u32,
+    pub notes: Listed<Note>,
+    pub endings: Listed<Ending>,
     pub answer: Answer,
     pub state: State,
 }

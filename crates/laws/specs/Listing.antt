@@ -12,13 +12,9 @@ use Rattle.laws.specs.Splice.{splice}
 unfoldable pub padded : {A : Type 0} → (size : ℕ) → A → List A → List A
 padded size d xs = xs ++ replicate (size - length xs) d
 
--- The array and the count n hold the list xs.
-pub record Listing {A : Type 0} (d : A) (size : ℕ) (array : List A) (n : ℕ) (xs : List A) : Type 0 where
-  pub is : array ≡ padded size d xs
-  pub count : n ≡ length xs
-
 module _ {A : Type 0} (d : A) where
-  set_padded : (k : ℕ) (xs : List A) (x : A) → length xs < k → set (padded k d xs) (length xs) x ≡ padded k d (xs ++ (x ∷ []))
+  -- one more
+  pub set_padded : (k : ℕ) (xs : List A) (x : A) → length xs < k → set (padded k d xs) (length xs) x ≡ padded k d (xs ++ (x ∷ []))
   unfolding padded
   set_padded zero xs x h = absurd (omega arith)
   set_padded (suc k) [] x h =
@@ -31,19 +27,11 @@ module _ {A : Type 0} (d : A) where
       rw (e, g) (ap (λ (zs : List A). y ∷ zs) (set_padded k ys x (omega arith)))
 
   -- the default everywhere
-  pub listing_none : {size : ℕ} → Listing d size (replicate size d) 0 []
+  pub padded_none : (size : ℕ) → replicate size d ≡ padded size d []
   unfolding padded
-  listing_none {size} =
+  padded_none size =
       let e : size - 0 ≡ size = omega arith in
-      record { is = rw e; count = refl }
-
-  -- one more
-  pub listing_more : {size n : ℕ} {array xs : List A} (x : A) → n < size → Listing d size array n xs → Listing d size (set array n x) (n + 1) (xs ++ (x ∷ []))
-  listing_more {size} {n} {array} {xs} x h l =
-      record {
-        is = rw (l.is, l.count) (set_padded size xs x (omega (arith, l.count)));
-        count = omega (arith, l.count, length-append xs (x ∷ []));
-      }
+      rw e
 
   drop_replicate : (i n : ℕ) → drop i (replicate n d) ≡ replicate (n - i) d
   drop_replicate zero n =
@@ -57,15 +45,11 @@ module _ {A : Type 0} (d : A) where
       rw e (drop_replicate i n)
 
   -- several more
-  pub listing_splice : {size n : ℕ} {array xs : List A} (ys : List A) → n + length ys ≤ size → Listing d size array n xs → Listing d size (splice array n ys) (n + length ys) (xs ++ ys)
+  pub splice_padded : (size : ℕ) (xs ys : List A) → length xs + length ys ≤ size → splice (padded size d xs) (length xs) ys ≡ padded size d (xs ++ ys)
   unfolding padded splice
-  listing_splice {size} {n} {array} {xs} ys h l =
-      let c = l.count in
+  splice_padded size xs ys h =
       let g : size - length xs - length ys ≡ size - length (xs ++ ys) = omega (arith, length-append xs ys) in
-      record {
-        is = rw (l.is, l.count, take-append_seam, drop-append-add, drop_replicate, g);
-        count = omega (arith, length-append xs ys);
-      }
+      rw (take-append_seam, drop-append-add, drop_replicate, g)
 
   -- the list is read back
   pub take_padded : (size n : ℕ) (xs : List A) → length xs ≡ n → take n (padded size d xs) ≡ xs

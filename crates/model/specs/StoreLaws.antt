@@ -19,7 +19,7 @@ use Rattle.std.proofs.Math.Seq.{take-suc}
 use Rattle.laws.specs.Bool.{when◌then◌else◌, ◌and◌, if_true, both, join, split}
 use Rattle.laws.specs.First.{first}
 use Rattle.laws.specs.Every.{every, every_append, every_remove}
-use Rattle.laws.specs.Listing.{padded, Listing, listing_none, listing_more}
+use Rattle.laws.specs.Listing.{padded, set_padded, padded_none}
 use Rattle.laws.specs.Shift.{remove_at, without, take_without, drop_without, length_without}
 use Rattle.model.specs.Code.{store, largest}
 use Rattle.model.specs.Record.{no_signal, set_signals}
@@ -113,23 +113,29 @@ unfolding left_over
 length_left xs = length-map xs _
 
 pub record Leaving (signals : List BufferedSignal) (count : ℕ) (endings : List (Option Ending)) (i : ℕ) : Type 0 where
-  pub listed_so : Listing None store endings i (map Some (left_over (take i signals)))
+  pub is : endings ≡ padded store None (map Some (left_over (take i signals)))
   pub low : i ≤ min store count
 
 pub leaving_none : {signals : List BufferedSignal} {count : ℕ} → Leaving signals count (replicate store None) 0
 unfolding left_over
-leaving_none = record { listed_so = listing_none None; low = omega arith }
+leaving_none = record { is = padded_none None store; low = omega arith }
 
 module _ {signals : List BufferedSignal} {count i : ℕ} {endings : List (Option Ending)} (l : Leaving signals count endings i) (long : length signals ≡ 64) where
-  abbrev left : Option Ending
-  left = Some (record { sequence = (get_or signals i no_signal).sequence; ending = Ended.LeftOver })
+  abbrev left : Ending
+  left = record { sequence = (get_or signals i no_signal).sequence; ending = Ended.LeftOver }
 
-  one_more_left : i < 64 → map Some (left_over (take (i + 1) signals)) ≡ map Some (left_over (take i signals)) ++ (left ∷ [])
+  one_more_left : i < 64 → left_over (take (i + 1) signals) ≡ left_over (take i signals) ++ (left ∷ [])
   unfolding left_over
-  one_more_left h = rw (add-one, take-suc signals i no_signal (omega arith), map-append, map-append)
+  one_more_left h = rw (add-one, take-suc signals i no_signal (omega arith), map-append)
 
-  pub leaving_more : i < min store count → Leaving signals count (set endings i left) (i + 1)
-  leaving_more h = record { listed_so = rw (one_more_left (omega arith)) (listing_more None left (omega arith) l.listed_so); low = omega arith }
+  pub leaving_more : i < min store count → Leaving signals count (set endings i (Some left)) (i + 1)
+  leaving_more h =
+      let so_far : List (Option Ending) = map Some (left_over (take i signals)) in
+      let n : length so_far ≡ i = omega (arith, length-map (left_over (take i signals)) Some, length_left (take i signals), length-take i signals) in
+      record {
+        is = rw (l.is, one_more_left (omega arith), map-append) (ap (λ j. set (padded store None so_far) j (Some left)) (sym n) ∙ set_padded None store so_far (Some left) (omega arith));
+        low = omega arith;
+      }
 
   all_taken : i ≡ min store count → take i signals ≡ take count signals
   all_taken e =
@@ -138,7 +144,7 @@ module _ {signals : List BufferedSignal} {count i : ℕ} {endings : List (Option
 
   pub leaving_all : min store count ≤ i → endings ≡ padded store None (map Some (left_over (listed signals count)))
   unfolding listed
-  leaving_all h = l.listed_so.is ∙ rw (all_taken (omega (arith, l.low)))
+  leaving_all h = l.is ∙ rw (all_taken (omega (arith, l.low)))
 
 -- THE FIRST OF A NAME, where i is its place: the signal, and the record without it.
 unfoldable pub found_at : State → Option ℕ → Option BufferedSignal

@@ -1,9 +1,8 @@
+use mathlib.Core.Path.{◌∙◌}
 use Rattle.kernel.specs.DriveLaws.{entries, enters_none}
 use Rattle.kernel.proofs.drive.entries.Goals as goal
+use Rattle.kernel.proofs.drive.entries.Goals.{in-Enter, in_default}
 
-pub returns-in-Enter : goal.returns-in-Enter
+pub returns : goal.returns
 unfolding entries
-returns-in-Enter c = simp c.in-Enter.is
-
-pub returns-in_default : goal.returns-in_default
-returns-in_default c = enters_none c.args.next c.in_default.not-Enter
+returns c = c.from.ensures ∙ elim c.match-matches.branch [ in-Enter w ↦ simp (w.matches-is, w.in-Enter.is) | in_default w ↦ rw w.matches-is (enters_none c.args.next w.in_default.not-Enter) ]

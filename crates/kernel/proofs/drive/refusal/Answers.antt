@@ -1,7 +1,6 @@
-use Rattle.laws.specs.Listing.{padded}
 use Rattle.kernel.specs.Decision.{decision_of}
 use Rattle.kernel.proofs.drive.refusal.Goals as goal
 
 pub returns : goal.returns
-unfolding decision_of padded
-returns c = simp (← c.no_note.ensures, ← c.no_ending.ensures, ← c.fresh.ensures)
+unfolding decision_of
+returns c = simp (c.bare.ensures, c.fresh.ensures)

@@ -4,7 +4,7 @@ use Rattle.kernel.proofs.drive.run.Given as goal
 
 -- Driving on from the round at hand, with what is listed and counted so far, ends where the whole drive ends.
 abbrev pub invariant-loop-microsteps : goal.invariant-loop-microsteps
-invariant-loop-microsteps l = Driving (workflow l.w) l.limits l.event l.mappings l.initial.v l.v l.notes l.endings l.note_count l.ending_count l.operations l.microsteps
+invariant-loop-microsteps l = Driving (workflow l.w) l.limits l.event l.mappings l.initial.v l.v l.notes l.endings l.operations l.microsteps
 
 -- The turns that are left.
 abbrev pub decreases-loop-microsteps : goal.decreases-loop-microsteps
