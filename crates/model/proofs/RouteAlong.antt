@@ -1,25 +1,19 @@
 -- A node that is there routes: what the code works out one by one is the move.
 use Rattle.std.specs.Prelude.{◌≡◌, Option, Some, None, Bool}
 use Rattle.std.proofs.Math.Bool.{true, false}
-use Prim.Native.Nat.{ℕ, ◌+◌, ◌<◌}
-use native.Mathlib.Omega.{arith}
-use borrow.Author.Tests.{lt-leb}
+use Prim.Native.Nat.{ℕ, ◌+◌}
 use Rattle.std.proofs.Math.Dec.{leb}
 use Rattle.laws.specs.Bool.{when◌then◌else◌, split}
 use Rattle.workflow.specs.Code.{exhausted}
 use Rattle.workflow.specs.View.{Workflow}
 use Rattle.workflow.specs.Lookup.{node_slots, route_of, limit_of}
 use Rattle.model.specs.declared.Output.{Output}
-use Rattle.model.specs.declared.Position.{Position}
 use Rattle.model.specs.declared.Streak.{Streak}
 use Rattle.model.specs.declared.State.{State}
 use Rattle.model.specs.declared.answer.Noted.{Noted}
-use Rattle.model.specs.declared.answer.Ending.{Ending}
-use Rattle.model.specs.declared.route.Routing.{Routing}
-use Rattle.model.specs.declared.moves.Next.{Next}
 use Rattle.model.specs.Record.{no_streak, streak_of, with_streak, with_result}
 use Rattle.model.specs.Step.{streak_count, noting, follow_to, route_limited, route}
-use Rattle.model.specs.RouteLaws.{exhausts, goes_on, routing_of, next_of, along, follow_on, stored_by, Makes, ends}
+use Rattle.model.specs.RouteLaws.{exhausts, goes_on, routing_of, next_of, along, follow_on, ends}
 
 module _ (f : Workflow) (s : State) (n o : ℕ) where
   either_way : (b : Bool) (x : ℕ) (k : Streak) → (when b then noting n (Noted.Exhausted o x) (follow_to f (with_streak s n no_streak) n (route_of f n exhausted)) else follow_to f (with_streak s n k) n (route_of f n o)) ≡ along f s n (when b then exhausts n o x else goes_on o k)
@@ -27,18 +21,10 @@ module _ (f : Workflow) (s : State) (n o : ℕ) where
   either_way true x k = rw (follow_on f (with_streak s n no_streak) n (route_of f n exhausted))
   either_way false x k = follow_on f (with_streak s n k) n (route_of f n o)
 
-  route_along : (l : Option ℕ) → route_limited f s n o l ≡ along f s n (routing_of l (streak_of s n) n o)
+  pub route_along : (l : Option ℕ) → route_limited f s n o l ≡ along f s n (routing_of l (streak_of s n) n o)
   unfolding route_limited routing_of
   route_along None = follow_on f (with_streak s n no_streak) n (route_of f n o)
   route_along (Some x) = either_way (leb x (streak_count (streak_of s n) o)) x (record { outcome = o; count = streak_count (streak_of s n) o + 1 })
-
-module _ (f : Workflow) (p : Position) (k : Streak) (o : ℕ) (x : Output) (e : Option Ending) where
-  pub routes : {m : ℕ} {l t : Option ℕ} {y : Routing} {n : Next} → m ≡ node_slots f → p.node < m → l ≡ limit_of f p.node o → y ≡ routing_of l k p.node o → t ≡ route_of f p.node y.outcome → n ≡ next_of t p.node
-      → Makes p k (record { stored = Some (record { result = record { visit = p.visit; outcome = o; output = x }; streak = y.streak }); next = n; note = y.note; ending = e }) (λ s. ends e (route f s o x))
-  unfolding route stored_by when◌then◌else◌
-  routes em lt el ey et en =
-      let past : leb (node_slots f) p.node ≡ false = lt-leb (node_slots f) p.node (omega arith) in
-      record { inside = λ _ _. omega arith; of_record = λ s a b. rw a (simp (past, route_along, b, en, et, ey, el)) }
 
 -- Routing says no ending.
 pub unended : (f : Workflow) (s : State) (o : ℕ) (x : Output) → ends None (route f s o x) ≡ route f s o x

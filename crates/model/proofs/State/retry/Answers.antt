@@ -1,11 +1,8 @@
-use mathlib.Core.Path.{refl, ◌∙◌}
-use Rattle.model.specs.RouteLaws.{tried}
+use mathlib.Core.Path.{◌∙◌}
 use Rattle.model.proofs.State.retry.Goals as goal
 
 pub returns-in_default : goal.returns-in_default
-unfolding tried
-returns-in_default c = c.still.ensures ∙ (rw c.in_default.is at (c.attempt_after.ensures.of_record c.args.self refl refl refl))
+returns-in_default c = c.still.ensures ∙ (rw c.in_default.is at c.attempt_after.ensures)
 
 pub returns : goal.returns
-unfolding tried
-returns c = rw c.in-Some.is at (c.attempt_after.ensures.of_record c.args.self refl refl refl)
+returns c = rw c.in-Some.is at c.attempt_after.ensures
