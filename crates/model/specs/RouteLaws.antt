@@ -5,9 +5,9 @@ use Rattle.std.proofs.Common.{◌∙◌}
 use Rattle.std.proofs.Math.Bool.{true, false}
 use Prim.Native.Nat.{ℕ, ◌+◌, ◌-◌, ◌≤◌, ◌<◌, min}
 use native.Mathlib.Omega.{arith}
-use borrow.Author.Tests.{ltb-true, ltb-false, lt-ltb, le-ltb, le-leb}
+use borrow.Author.Tests.{lt-ltb, le-ltb, le-leb, lt-leb, eq-eqb, ne_eqb}
 use Rattle.std.proofs.Math.Dec.{leb}
-use Rattle.laws.specs.Bool.{when◌then◌else◌, split}
+use Rattle.laws.specs.Bool.{when◌then◌else◌, if_true, if_false, strict_and}
 use Rattle.workflow.specs.Code.{exhausted}
 use Rattle.model.specs.Code.{store, largest, running, scheduled, largest_attempt}
 use Rattle.workflow.specs.View.{Workflow}
@@ -34,7 +34,10 @@ use Rattle.model.specs.declared.moves.Move.{Move}
 use Rattle.model.specs.Record.{placed, no_streak, streak_of, with_streak, with_result}
 use Rattle.model.specs.StoreLaws.{found_at, left_at}
 use Rattle.model.specs.Store.{first_signal, signal_at, removed}
-use Rattle.model.specs.Step.{planned, phased, retry, signal_outcome, streak_count, still, follow_to, route, signal_route, take_by, take}
+use Rattle.model.specs.Step.{streak_count, still, noting, follow_to, route_limited, take}
+
+-- Tests, as the code makes them.
+pub ruleset deciding = (if_true, if_false, le-ltb, lt-ltb, le-leb, lt-leb, eq-eqb, ne_eqb, strict_and)
 
 -- The outcome that is followed, the next streak and the note.
 abbrev pub exhausts : (node outcome limit : ℕ) → Routing
@@ -52,15 +55,26 @@ unfoldable pub next_of : Option ℕ → (node : ℕ) → Next
 next_of (Some t) n = Enter t n
 next_of None n = Refuse Refusal.Invariant
 
+-- A node that is there routes: what the code works out one by one is the move.
 module _ (f : Workflow) (s : State) (n : ℕ) where
-  -- The move that routes.
-  abbrev pub along : Routing → Move
+  abbrev along : Routing → Move
   along y = record { state = with_streak s n y.streak; next = next_of (route_of f n y.outcome) n; note = y.note; ending = None; order = None; read = 0 }
 
-  pub follow_on : (x : Option ℕ) → follow_to f s n x ≡ still s (next_of x n)
+  follow_on : (x : Option ℕ) → follow_to f s n x ≡ still s (next_of x n)
   unfolding follow_to next_of
   follow_on (Some t) = refl
   follow_on None = refl
+
+module _ (f : Workflow) (s : State) (n o : ℕ) where
+  either_way : (b : Bool) (x : ℕ) (k : Streak) → (when b then noting n (Noted.Exhausted o x) (follow_to f (with_streak s n no_streak) n (route_of f n exhausted)) else follow_to f (with_streak s n k) n (route_of f n o)) ≡ along f s n (when b then exhausts n o x else goes_on o k)
+  unfolding when◌then◌else◌
+  either_way true x k = rw (follow_on f (with_streak s n no_streak) n (route_of f n exhausted))
+  either_way false x k = follow_on f (with_streak s n k) n (route_of f n o)
+
+  pub route_along : (l : Option ℕ) → route_limited f s n o l ≡ along f s n (routing_of l (streak_of s n) n o)
+  unfolding route_limited routing_of
+  route_along None = follow_on f (with_streak s n no_streak) n (route_of f n o)
+  route_along (Some x) = either_way (leb x (streak_count (streak_of s n) o)) x (record { outcome = o; count = streak_count (streak_of s n) o + 1 })
 
 -- WHAT IS STORED AND SAID, as the code works it out before it stores it: what it makes of a record.
 abbrev pub stored_by : State → (node : ℕ) → Option Stored → State
@@ -76,10 +90,6 @@ HasSlot s r = (x : Stored) → r.stored ≡ Some x → s.position.node < 64
 
 abbrev pub unstored : Next → Option Note → Option Ending → Routed
 unstored n t e = record { stored = None; next = n; note = t; ending = e }
-
--- The same move with this ending.
-abbrev pub ends : Option Ending → Move → Move
-ends e m = record { state = m.state; next = m.next; note = m.note; ending = e; order = m.order; read = m.read }
 
 -- THE MOVE THAT TAKES A SIGNAL, by what comes next. The store gives its oldest signal of the name that the node waits for; with none the run goes on waiting.
 unfoldable pub consumed : Workflow → State → Option ℕ → Move

@@ -1,11 +1,13 @@
 // The moves that route a node's outcome and take a signal.
+#![tactic(auto, using(crate::specs::RouteLaws::deciding, crate::specs::RouteLaws::route_along), unfolding(crate::specs::RouteLaws::routing_of, crate::specs::RouteLaws::next_of, crate::specs::Step::route, crate::specs::Step::take_by))]
+
 ghost use Rattle.std.specs.Prelude.{◌≡◌, eqb};
 ghost use Rattle.laws.specs.Bool.{◌and◌};
 ghost use Rattle.workflow.specs.View.{workflow};
 ghost use Rattle.workflow.specs.Code.{exhausted};
 ghost use Rattle.workflow.specs.Lookup.{is_0_2};
 ghost use Rattle.model.specs.Step.{streak_count, signal_outcome, signal_route, route, take};
-ghost use Rattle.model.specs.RouteLaws.{routing_of, next_of, unstored, HasSlot, made, ends, taking};
+ghost use Rattle.model.specs.RouteLaws.{routing_of, next_of, unstored, HasSlot, made, taking};
 
 use crate::answer::{Ended, Ending, Note, Noted};
 use crate::moves::{Move, Next};
@@ -137,20 +139,14 @@ fn unstored(next: Next, note: Option<Note>, ending: Option<Ending>) -> Routed
 
 impl State {
     // The node where the run stands routes: the result goes with the reported outcome.
-    fn routed_from(
-        &self,
-        w: &[u32; NUMBERS],
-        outcome: u32,
-        output: Output,
-        ending: Option<Ending>,
-    ) -> Routed
+    fn routed_from(&self, w: &[u32; NUMBERS], outcome: u32, output: Output) -> Routed
         ensures slot { HasSlot self.now result }
-        ensures move_is { made self.now result ≡ ends ending (route (workflow w.now) self.now outcome output) }
+        ensures move_is { made self.now result ≡ route (workflow w.now) self.now outcome output }
     {
         let node = self.position.node;
         let n = node as usize;
         if workflow::capped(w[workflow::layout::NODE_COUNT], NODES) <= n {
-            return unstored(Next::Refuse(Refusal::Invariant), None, ending);
+            return unstored(Next::Refuse(Refusal::Invariant), None, None);
         }
         let limit = workflow::find_limit(w, node, outcome);
         let routing = routing_of(limit, self.streak_of(node), node, outcome);
@@ -165,7 +161,7 @@ impl State {
             }),
             next: next_of(workflow::find_route(w, node, routing.outcome), node),
             note: routing.note,
-            ending,
+            ending: None,
         }
     }
 
@@ -194,7 +190,10 @@ impl State {
             sequence: signal.sequence,
             ending: Ended::Routed,
         };
-        self.routed_from(w, outcome, Output::Handle(signal.data), Some(ending))
+        Routed {
+            ending: Some(ending),
+            ..self.routed_from(w, outcome, Output::Handle(signal.data))
+        }
     }
 
     // What routing makes of the run is stored and said.
@@ -221,11 +220,12 @@ impl State {
     pub fn route(self, w: &[u32; NUMBERS], outcome: u32, output: Output) -> Move
         ensures { result ≡ route (workflow w.now) self outcome output }
     {
-        let routed = self.routed_from(w, outcome, output, None);
+        let routed = self.routed_from(w, outcome, output);
         self.made(routed)
     }
 
     // A signal is taken where one is to be: the one that arrived, or the oldest stored one of the name that the node waits for. Else nothing is.
+    #[tactic(auto, using(crate::specs::RouteLaws::consumes, crate::specs::RouteLaws::passed_on), unfolding(crate::specs::RouteLaws::taking, crate::specs::RouteLaws::consumed, crate::specs::StoreLaws::found_at, crate::specs::StoreLaws::left_at))]
     pub fn take(mut self, w: &[u32; NUMBERS], next: Next, arrived: BufferedSignal) -> Move
         ensures { result ≡ taking (workflow w.now) self next arrived }
     {
