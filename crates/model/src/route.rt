@@ -1,16 +1,17 @@
 // The moves that route a node's outcome and take a signal.
-ghost use Rattle.std.specs.Prelude.{◌≡◌, ℕ, ◌<◌, Some, eqb};
+#![tactic(auto, using(crate::specs::RouteLaws::deciding, crate::specs::RouteLaws::route_along), unfolding(crate::specs::RouteLaws::routing_of, crate::specs::RouteLaws::next_of, crate::specs::Step::route, crate::specs::Step::take_by))]
+
+ghost use Rattle.std.specs.Prelude.{◌≡◌, eqb};
 ghost use Rattle.laws.specs.Bool.{◌and◌};
 ghost use Rattle.workflow.specs.View.{workflow};
 ghost use Rattle.workflow.specs.Code.{exhausted};
 ghost use Rattle.workflow.specs.Lookup.{is_0_2};
-ghost use Rattle.model.specs.declared.route.Stored.{Stored};
 ghost use Rattle.model.specs.Step.{streak_count, signal_outcome, signal_route, route, take};
-ghost use Rattle.model.specs.RouteLaws.{routing_of, next_of, stored_by, unstored, Makes, ends, taken_by, taking};
+ghost use Rattle.model.specs.RouteLaws.{routing_of, next_of, unstored, HasSlot, made, taking};
 
 use crate::answer::{Ended, Ending, Note, Noted};
 use crate::moves::{Move, Next};
-use crate::{BufferedSignal, NodeResult, Output, Position, State, Streak};
+use crate::{BufferedSignal, NodeResult, Output, State, Streak};
 use workflow::code as sheet;
 use workflow::layout::{NODES, NUMBERS};
 use workflow::refusal::Refusal;
@@ -136,149 +137,109 @@ fn unstored(next: Next, note: Option<Note>, ending: Option<Ending>) -> Routed
     }
 }
 
-// The node where the run stands, with its streak, routes: the result goes with the reported outcome.
-fn routed_from(
-    w: &[u32; NUMBERS],
-    position: Position,
-    streak: Streak,
-    outcome: u32,
-    output: Output,
-    ending: Option<Ending>,
-) -> Routed
-    ensures { Makes position streak result (λ s. ends ending (route (workflow w.now) s outcome output)) }
-{
-    let node = position.node;
-    let n = node as usize;
-    if workflow::capped(w[workflow::layout::NODE_COUNT], NODES) <= n {
-        return unstored(Next::Refuse(Refusal::Invariant), None, ending);
+impl State {
+    // The node where the run stands routes: the result goes with the reported outcome.
+    fn routed_from(&self, w: &[u32; NUMBERS], outcome: u32, output: Output) -> Routed
+        ensures slot { HasSlot self.now result }
+        ensures move_is { made self.now result ≡ route (workflow w.now) self.now outcome output }
+    {
+        let node = self.position.node;
+        let n = node as usize;
+        if workflow::capped(w[workflow::layout::NODE_COUNT], NODES) <= n {
+            return unstored(Next::Refuse(Refusal::Invariant), None, None);
+        }
+        let limit = workflow::find_limit(w, node, outcome);
+        let routing = routing_of(limit, self.streak_of(node), node, outcome);
+        Routed {
+            stored: Some(Stored {
+                result: NodeResult {
+                    visit: self.position.visit,
+                    outcome,
+                    output,
+                },
+                streak: routing.streak,
+            }),
+            next: next_of(workflow::find_route(w, node, routing.outcome), node),
+            note: routing.note,
+            ending: None,
+        }
     }
-    let limit = workflow::find_limit(w, node, outcome);
-    let routing = routing_of(limit, streak, node, outcome);
-    Routed {
-        stored: Some(Stored {
-            result: NodeResult {
-                visit: position.visit,
-                outcome,
-                output,
-            },
-            streak: routing.streak,
-        }),
-        next: next_of(workflow::find_route(w, node, routing.outcome), node),
-        note: routing.note,
-        ending,
-    }
-}
 
-// A signal is taken where the run waits: it routes and ends there. Without a routed outcome it ends there too, and the run goes on waiting.
-fn taken(
-    w: &[u32; NUMBERS],
-    position: Position,
-    streak: Streak,
-    signal: BufferedSignal,
-    missed: Next,
-) -> Routed
-    ensures { Makes position streak result (λ s. take (workflow w.now) s signal missed) }
-{
-    let outcome = signal_outcome(signal.outcome);
-    let Some(_) = signal_route(w, position.node, outcome) else {
-        let note = Note {
-            node: position.node,
-            noted: Noted::Unrouted {
-                event_id: signal.event_id,
-                outcome,
-            },
+    // A signal is taken where the run waits: it routes and ends there. Without a routed outcome it ends there too, and the run goes on waiting.
+    fn taken(&self, w: &[u32; NUMBERS], signal: BufferedSignal, missed: Next) -> Routed
+        ensures slot { HasSlot self.now result }
+        ensures move_is { made self.now result ≡ take (workflow w.now) self.now signal missed }
+    {
+        let node = self.position.node;
+        let outcome = signal_outcome(signal.outcome);
+        let Some(_) = signal_route(w, node, outcome) else {
+            let note = Note {
+                node,
+                noted: Noted::Unrouted {
+                    event_id: signal.event_id,
+                    outcome,
+                },
+            };
+            let ending = Ending {
+                sequence: signal.sequence,
+                ending: Ended::Unrouted,
+            };
+            return unstored(missed, Some(note), Some(ending));
         };
         let ending = Ending {
             sequence: signal.sequence,
-            ending: Ended::Unrouted,
+            ending: Ended::Routed,
         };
-        return unstored(missed, Some(note), Some(ending));
-    };
-    let ending = Ending {
-        sequence: signal.sequence,
-        ending: Ended::Routed,
-    };
-    routed_from(
-        w,
-        position,
-        streak,
-        outcome,
-        Output::Handle(signal.data),
-        Some(ending),
-    )
-}
-
-// The signal that arrived is taken, or the one that was found in the store; else nothing is.
-fn taken_by(
-    w: &[u32; NUMBERS],
-    next: Next,
-    arrived: BufferedSignal,
-    found: Option<BufferedSignal>,
-    position: Position,
-    streak: Streak,
-) -> Routed
-    ensures { Makes position streak result (λ s. taken_by (workflow w.now) next arrived found s) }
-{
-    match next {
-        Next::Take => taken(w, position, streak, arrived, Next::Rest),
-        Next::Consume => match found {
-            Some(signal) => taken(w, position, streak, signal, Next::Consume),
-            None => unstored(Next::Rest, None, None),
-        },
-        _ => unstored(next, None, None),
+        Routed {
+            ending: Some(ending),
+            ..self.routed_from(w, outcome, Output::Handle(signal.data))
+        }
     }
-}
 
-impl State {
-    // What routing stores at its node, if something.
-    fn store(&mut self, node: u32, stored: Option<Stored>)
-        requires { (kept : Stored) → stored ≡ Some kept → node < 64 }
-        ensures { self.new ≡ stored_by self.old node stored }
+    // What routing makes of the run is stored and said.
+    fn made(mut self, routed: Routed) -> Move
+        requires { HasSlot self routed }
+        ensures { result ≡ made self routed }
     {
-        if let Some(kept) = stored {
-            let n = node as usize;
-            self.results[n] = kept.result;
-            self.streaks[n] = kept.streak;
+        if let Some(stored) = routed.stored {
+            let n = self.position.node as usize;
+            self.results[n] = stored.result;
+            self.streaks[n] = stored.streak;
+        }
+        Move {
+            state: self,
+            next: routed.next,
+            note: routed.note,
+            ending: routed.ending,
+            order: None,
+            read: 0,
         }
     }
 
     // Routing stores the result with the reported outcome, then the streak, and follows the route.
-    pub fn route(mut self, w: &[u32; NUMBERS], outcome: u32, output: Output) -> Move
+    pub fn route(self, w: &[u32; NUMBERS], outcome: u32, output: Output) -> Move
         ensures { result ≡ route (workflow w.now) self outcome output }
     {
-        let position = self.position;
-        let streak = self.streak_of(position.node);
-        let r = routed_from(w, position, streak, outcome, output, None);
-        self.store(position.node, r.stored);
-        Move {
-            state: self,
-            next: r.next,
-            note: r.note,
-            ending: r.ending,
-            order: None,
-            read: 0,
-        }
+        let routed = self.routed_from(w, outcome, output);
+        self.made(routed)
     }
 
-    // A signal is taken where one is to be: the one that arrived, or the oldest stored one of the name that the node waits for.
+    // A signal is taken where one is to be: the one that arrived, or the oldest stored one of the name that the node waits for. Else nothing is.
+    #[tactic(auto, using(crate::specs::RouteLaws::consumes, crate::specs::RouteLaws::passed_on), unfolding(crate::specs::RouteLaws::taking, crate::specs::RouteLaws::consumed, crate::specs::StoreLaws::found_at, crate::specs::StoreLaws::left_at))]
     pub fn take(mut self, w: &[u32; NUMBERS], next: Next, arrived: BufferedSignal) -> Move
         ensures { result ≡ taking (workflow w.now) self next arrived }
     {
-        let position = self.position;
-        let mut found = None;
-        if let Next::Consume = next {
-            found = self.remove_first(workflow::node_of(w, position.node).signal);
-        }
-        let streak = self.streak_of(position.node);
-        let r = taken_by(w, next, arrived, found, position, streak);
-        self.store(position.node, r.stored);
-        Move {
-            state: self,
-            next: r.next,
-            note: r.note,
-            ending: r.ending,
-            order: None,
-            read: 0,
-        }
+        let routed = match next {
+            Next::Take => self.taken(w, arrived, Next::Rest),
+            Next::Consume => {
+                let name = workflow::node_of(w, self.position.node).signal;
+                match self.remove_first(name) {
+                    Some(signal) => self.taken(w, signal, Next::Consume),
+                    None => unstored(Next::Rest, None, None),
+                }
+            }
+            _ => unstored(next, None, None),
+        };
+        self.made(routed)
     }
 }

@@ -1,2 +1,0 @@
--- routing, worked out one by one
-pub mod RouteAlong
