@@ -12,7 +12,7 @@ use Rattle.workflow.specs.Refusal.{number}
 use Rattle.graph.specs.declared.Broken.{Broken}
 use Rattle.graph.specs.Verdict.{Verdict, broken, rule, rule_at, first_broken}
 
-never : {A : Type 0} {x : Broken} → ◌≡◌ {A = Verdict} (Err x) (Ok tt) → A
+never : {A : Type 0} {x : Broken Refusal} → ◌≡◌ {A = Verdict} (Err x) (Ok tt) → A
 never e = let z : ◌≡◌ {A = ℕ} 0 1 = cc in absurd (omega arith)
 
 -- A FINE CHAIN. Each of its stages is fine; `search stage depth n` finds a stage among n by what it is.
@@ -65,7 +65,7 @@ the_first (Err x ∷ vs) k i e = record { before = []; after = vs; parts = ap (�
 
 -- THE NUMBERS. No stage refuses with 0, which is no rule of a sheet or a call, or with 26, the limit on microsteps.
 pub record Mild (v : Verdict) : Type 0 where
-  pub mild : (x : Broken) → v ≡ Err x → (number x.refusal ≡ 0 → ⊥) × (number x.refusal ≡ 26 → ⊥)
+  pub mild : (x : Broken Refusal) → v ≡ Err x → (number x.refusal ≡ 0 → ⊥) × (number x.refusal ≡ 26 → ⊥)
 
 abbrev number_of : Verdict → ℕ
 number_of (Ok tt) = 0
@@ -103,7 +103,7 @@ mild_next (Err x) vs m n = m
 pub ruleset mild_stages = (mild_none, mild_next, mild_rule, mild_rule_at)
 
 -- THE CODE along a chain: `?` answers with a stage that is broken, and goes on after one that passes; the last one answers.
-pub stops : {r w : Verdict} {x : Broken} (vs : List Verdict) → Err x ≡ w → IsErrAnd r (λ y. y ≡ x) → r ≡ first_broken (w ∷ vs)
+pub stops : {r w : Verdict} {x : Broken Refusal} (vs : List Verdict) → Err x ≡ w → IsErrAnd r (λ y. y ≡ x) → r ≡ first_broken (w ∷ vs)
 unfolding first_broken
 stops {r} vs e h = let p = err_from_is_err_and r h in rw (p.1, p.2, sym e)
 

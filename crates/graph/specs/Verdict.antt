@@ -16,13 +16,13 @@ use Rattle.graph.specs.Sets.{breaks_14, breaks_15}
 
 -- A stage of a call passes, or it is broken: a rule with its item.
 abbrev pub Verdict : Type 0
-Verdict = Result (Unit {0}) Broken
+Verdict = Result (Unit {0}) (Broken Refusal)
 
-abbrev pub broken : Refusal → (item : ℕ) → Verdict
+abbrev pub broken : {R : Type 0} → R → (item : ℕ) → Result (Unit {0}) (Broken R)
 broken refusal item = Err (record { refusal = refusal; item = item })
 
 -- A rule of the whole sheet or of a call, and one whose item is the lowest that breaks it.
-abbrev pub rule : Refusal → (holds : Bool) → Verdict
+abbrev pub rule : {R : Type 0} → R → (holds : Bool) → Result (Unit {0}) (Broken R)
 rule refusal holds = when holds then Ok tt else broken refusal none
 
 unfoldable pub rule_at : Refusal → (broken_by : Option ℕ) → Verdict

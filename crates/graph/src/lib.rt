@@ -26,15 +26,15 @@ pub struct Ceilings {
     pub attempts: u32,
 }
 
-// What a sheet or a call is refused with: a rule and its item.
+// What a sheet or a call is refused with: a rule, as the refusal or as any other that a caller names it by, and its item.
 #[derive(Clone, Copy, Debug, PartialEq, Eq)]
-pub struct Broken {
-    pub refusal: Refusal,
+pub struct Broken<R = Refusal> {
+    pub refusal: R,
     pub item: u32,
 }
 
 // A rule of the whole sheet, or of the call.
-pub fn rule(refusal: Refusal, holds: bool) -> Result<(), Broken>
+pub fn rule<R: Copy>(refusal: R, holds: bool) -> Result<(), Broken<R>>
     ensures { result ≡ rule refusal holds }
 {
     if holds {

@@ -25,7 +25,7 @@ use Rattle.demand3.proofs.Driver.{Checks, checked_driven}
 
 -- BEFORE THE STEP.
 record Known (v : Verdict) : Type 0 where
-  known : (x : Broken) → v ≡ Err x → (0 < number x.refusal) × (number x.refusal < 31)
+  known : (x : Broken Refusal) → v ≡ Err x → (0 < number x.refusal) × (number x.refusal < 31)
 
 abbrev number_of : Verdict → ℕ
 number_of (Ok tt) = 0

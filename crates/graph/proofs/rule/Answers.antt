@@ -3,8 +3,8 @@ use Rattle.graph.proofs.rule.Goals as goal
 
 pub returns-then-holds : goal.returns-then-holds
 unfolding when◌then◌else◌
-returns-then-holds c = simp c.if-holds.true
+returns-then-holds g c = simp c.if-holds.true
 
 pub returns : goal.returns
 unfolding when◌then◌else◌
-returns c = simp c.if-holds.false
+returns g c = simp c.if-holds.false
