@@ -18,6 +18,7 @@ use Rattle.model.specs.declared.event.NoValue.TheVariants.{Fault, Unencodable, L
 use Rattle.model.specs.declared.answer.Order.{Order}
 use Rattle.model.specs.declared.answer.Note.{Note}
 use Rattle.model.specs.declared.answer.Ending.{Ending}
+use Rattle.model.specs.declared.answer.Field.{Field}
 use Rattle.model.specs.declared.moves.Next.{Next}
 use Rattle.model.specs.declared.moves.Next.TheVariants.{Rest, Enter, Take, Consume, Wants, Refuse}
 use Rattle.model.specs.declared.moves.Move.{Move}
@@ -109,7 +110,7 @@ module _ (f : Workflow) where
   unfolding terminate
   entered_terminate s x = entered_as _ Rest (omega arith)
 
-  entered_evaluate : (a : Result ℕ NoValue) (s : State) (n i b r : ℕ) (k : ℕ → Move) → ((x : ℕ) → Entered s.signal_count (k x)) → Entered s.signal_count (evaluate f a s n i b r k)
+  entered_evaluate : (a : Result ℕ NoValue) (s : State) (n : ℕ) (i : Field) (b r : ℕ) (k : ℕ → Move) → ((x : ℕ) → Entered s.signal_count (k x)) → Entered s.signal_count (evaluate f a s n i b r k)
   unfolding evaluate without_value terminate
   entered_evaluate (Ok x) s n i b r k g = g x
   entered_evaluate (Err (Fault c d)) s n i b r k g = entered_as _ Rest (omega arith)

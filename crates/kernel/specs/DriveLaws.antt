@@ -98,13 +98,13 @@ is_over Consume h = eqb h 0
 is_over (Wants n i b) h = true
 is_over (Refuse k) h = true
 
-pub over_rests : (n : Next) (h : ℕ) → (n ≡ Rest) ⊎ (((t : ℕ) × (i : ℕ) × (b : ℕ) × (n ≡ Wants t i b)) ⊎ ((r : Refusal) × (n ≡ Refuse r))) → true ≡ is_over n h
+pub over_rests : (n : Next) (h : ℕ) → (n ≡ Rest) ⊎ (((t : ℕ) × (i : Field) × (b : ℕ) × (n ≡ Wants t i b)) ⊎ ((r : Refusal) × (n ≡ Refuse r))) → true ≡ is_over n h
 unfolding is_over
 over_rests n h (inl e) = rw e
 over_rests n h (inr (inl (t, i, b, e))) = rw e
 over_rests n h (inr (inr (r, e))) = rw e
 
-pub over_none : (n : Next) (h : ℕ) → (n ≡ Rest → ⊥) → ((t i b : ℕ) → n ≡ Wants t i b → ⊥) → ((r : Refusal) → n ≡ Refuse r → ⊥) → (n ≡ Consume → ⊥) → false ≡ is_over n h
+pub over_none : (n : Next) (h : ℕ) → (n ≡ Rest → ⊥) → ((t : ℕ) (i : Field) (b : ℕ) → n ≡ Wants t i b → ⊥) → ((r : Refusal) → n ≡ Refuse r → ⊥) → (n ≡ Consume → ⊥) → false ≡ is_over n h
 unfolding is_over
 over_none Rest h x y z w = absurd (x refl)
 over_none (Enter n b) h x y z w = refl
