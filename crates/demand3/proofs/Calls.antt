@@ -1,23 +1,31 @@
 -- A list of calls of the code is the list of the definition, so demand 3 speaks of the code.
-use Rattle.std.specs.Prelude.{◌≡◌, refl, List, [], ◌∷◌, ◌++◌, map, length, take}
-use Rattle.std.proofs.Common.{sym, ap, subst}
-use Rattle.laws.specs.Listing.{padded}
+use Rattle.std.specs.Prelude.{◌≡◌, refl, Some, None, List, [], ◌∷◌, ◌++◌, map, length}
+use Rattle.std.proofs.Common.{sym, ap, subst, ◌∙◌}
+use Rattle.std.proofs.lemmas.List.{length-map}
+use Rattle.laws.specs.Listing.{take_padded}
 use Rattle.workflow.specs.View.{Workflow}
 use Rattle.kernel.specs.declared.Call.{Call}
 use Rattle.kernel.specs.Call.{Answer, next, wants, refused, transition}
+use Rattle.kernel.specs.Code.{list_room}
+use Rattle.kernel.specs.Listed.{listed, somes, list_of}
 use Rattle.kernel.specs.Decision.{decision_of}
 use Rattle.demand3.specs.Demand3.{Entry, next_entry, history, Demand3}
 use Rattle.demand3.proofs.Holds.{holds}
 use Rattle.demand3.specs.Calls.{Made, read, entry, Ran, calls}
 
-take_front : {A : Type 0} (xs ys : List A) → take (length xs) (xs ++ ys) ≡ xs
-take_front [] ys = refl
-take_front (x ∷ xs) ys = ap (λ (zs : List _). x ∷ zs) (take_front xs ys)
+-- A list is read back from its rows.
+somes_map : {A : Type 0} (xs : List A) → somes (map Some xs) ≡ xs
+unfolding somes
+somes_map [] = refl
+somes_map (x ∷ xs) = ap (λ (zs : List _). x ∷ zs) (somes_map xs)
+
+list_back : {A : Type 0} (xs : List A) → list_of (listed xs) ≡ xs
+unfolding list_of listed
+list_back xs = ap somes (take_padded None list_room (length xs) (map Some xs) (length-map xs Some)) ∙ somes_map xs
 
 read_back : (a : Answer) → read (decision_of a) ≡ a
-unfolding decision_of padded
-read_back (next a) =
-    rw (take_front a.notes _, take_front a.endings _)
+unfolding decision_of
+read_back (next a) = rw (list_back a.notes, list_back a.endings)
 read_back (wants n i b s) = refl
 read_back (refused k i) = refl
 

@@ -27,6 +27,7 @@ use Rattle.model.specs.declared.answer.Order.{Order}
 use Rattle.model.specs.declared.answer.Note.{Note}
 use Rattle.model.specs.declared.answer.Ended.{Ended}
 use Rattle.model.specs.declared.answer.Ending.{Ending}
+use Rattle.model.specs.declared.answer.Field.{Field}
 use Rattle.model.specs.declared.moves.Next.{Next}
 use Rattle.model.specs.declared.moves.Next.TheVariants.{Rest, Enter, Take, Consume, Wants, Refuse}
 use Rattle.model.specs.declared.moves.Move.{Move}
@@ -212,7 +213,7 @@ module _ (f : Workflow) (s₀ : State) (e : Event) where
     unfolding terminate
     leads_terminate s x g = leads_rest _ g (gone refl)
 
-    leads_evaluate : (a : Result ℕ NoValue) (s : State) (n i b r : ℕ) (k : ℕ → Move) → Lives told s nothing → ((x : ℕ) → Leads told (k x)) → Leads told (evaluate f a s n i b r k)
+    leads_evaluate : (a : Result ℕ NoValue) (s : State) (n : ℕ) (i : Field) (b r : ℕ) (k : ℕ → Move) → Lives told s nothing → ((x : ℕ) → Leads told (k x)) → Leads told (evaluate f a s n i b r k)
     unfolding evaluate without_value terminate
     leads_evaluate (Ok x) s n i b r k g h = h x
     leads_evaluate (Err (Fault c d)) s n i b r k g h = leads_rest _ g (gone refl)

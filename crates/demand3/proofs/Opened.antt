@@ -14,6 +14,7 @@ use Rattle.model.specs.declared.event.Mappings.{Mappings}
 use Rattle.model.specs.declared.event.NoValue.{NoValue}
 use Rattle.model.specs.declared.event.NoValue.TheVariants.{Fault, Unencodable, Lacking}
 use Rattle.model.specs.declared.answer.Order.{Order}
+use Rattle.model.specs.declared.answer.Field.{Field}
 use Rattle.model.specs.declared.moves.Next.{Next}
 use Rattle.model.specs.declared.moves.Next.TheVariants.{Rest, Enter, Take, Consume, Wants, Refuse}
 use Rattle.model.specs.declared.moves.Move.{Move}
@@ -57,7 +58,7 @@ module _ (f : Workflow) (before : InvocationState) where
   unfolding terminate
   good_terminate s x = record { after = closed refl }
 
-  good_evaluate : (a : Result ℕ NoValue) (s : State) (n i b r : ℕ) (k : ℕ → Move) → ((x : ℕ) → Good (k x)) → Good (evaluate f a s n i b r k)
+  good_evaluate : (a : Result ℕ NoValue) (s : State) (n : ℕ) (i : Field) (b r : ℕ) (k : ℕ → Move) → ((x : ℕ) → Good (k x)) → Good (evaluate f a s n i b r k)
   unfolding evaluate without_value
   good_evaluate (Ok x) s n i b r k g = g x
   good_evaluate (Err (Fault c d)) s n i b r k g = record { after = (good_terminate s _).after }

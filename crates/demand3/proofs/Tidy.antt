@@ -30,6 +30,7 @@ use Rattle.model.specs.declared.event.Event.{Event}
 use Rattle.model.specs.declared.event.Mappings.{Mappings}
 use Rattle.model.specs.declared.event.NoValue.{NoValue}
 use Rattle.model.specs.declared.event.NoValue.TheVariants.{Fault, Unencodable, Lacking}
+use Rattle.model.specs.declared.answer.Field.{Field}
 use Rattle.model.specs.declared.moves.Next.{Next}
 use Rattle.model.specs.declared.moves.Next.TheVariants.{Rest, Enter, Take, Consume, Wants, Refuse}
 use Rattle.model.specs.declared.moves.Move.{Move}
@@ -286,7 +287,7 @@ module _ (f : Workflow) where
     keep_streak x h = keep_slots _ on.tidy.visit_slots on.tidy.result_slots (slots_set n x (in_sheet _ _ h) on.tidy.streak_slots)
 
   -- A NODE IS ENTERED
-  good_evaluate : (a : Result ℕ NoValue) (s : State) (n i b r : ℕ) (k : ℕ → Move) → Tidies f s → ((x : ℕ) → Good (k x)) → Good (evaluate f a s n i b r k)
+  good_evaluate : (a : Result ℕ NoValue) (s : State) (n : ℕ) (i : Field) (b r : ℕ) (k : ℕ → Move) → Tidies f s → ((x : ℕ) → Good (k x)) → Good (evaluate f a s n i b r k)
   unfolding evaluate without_value
   good_evaluate (Ok x) s n i b r k t h = h x
   good_evaluate (Err (Fault c d)) s n i b r k t h = record { after = (good_terminate s _ t).after }

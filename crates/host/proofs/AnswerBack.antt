@@ -105,7 +105,7 @@ field_read Field.Input = refl
 field_read Field.Params = refl
 field_read Field.Output = refl
 
-module _ {ns : List ℕ} (i : ℕ) where
+module _ (ns : List ℕ) (i : ℕ) where
   note_read : (x : Note) → at ns (note_place i) ≡ at (note_numbers x) 0 → at ns (note_place i + 1) ≡ at (note_numbers x) 1 → at ns (note_place i + 2) ≡ at (note_numbers x) 2
       → at ns (note_place i + 3) ≡ at (note_numbers x) 3 → at ns (note_place i + 4) ≡ at (note_numbers x) 4 → note_from ns i ≡ x
   unfolding note_from note_numbers
@@ -156,12 +156,12 @@ module _ (d : Decision) (noted : length d.notes.rows ≡ layout.notes) (ended : 
   note_back : (i : ℕ) → i < layout.notes → (x : Note) → get_or d.notes.rows i None ≡ Some x → note_from (decision_numbers d) i ≡ x
   note_back i h x e =
       let there : (j p : ℕ) → j < layout.note_width → p ≡ note_place i + j → at (decision_numbers d) p ≡ at (note_numbers x) j = λ j p g place. rw e at (note_at i h j p g place) in
-      note_read i x (there 0 (note_place i) (omega arith) (omega arith)) (there 1 (note_place i + 1) (omega arith) (omega arith)) (there 2 (note_place i + 2) (omega arith) (omega arith)) (there 3 (note_place i + 3) (omega arith) (omega arith)) (there 4 (note_place i + 4) (omega arith) (omega arith))
+      note_read (decision_numbers d) i x (there 0 (note_place i) (omega arith) (omega arith)) (there 1 (note_place i + 1) (omega arith) (omega arith)) (there 2 (note_place i + 2) (omega arith) (omega arith)) (there 3 (note_place i + 3) (omega arith) (omega arith)) (there 4 (note_place i + 4) (omega arith) (omega arith))
 
   ending_back : (i : ℕ) → i < layout.endings → (x : Ending) → get_or d.endings.rows i None ≡ Some x → ending_from (decision_numbers d) i ≡ x
   ending_back i h x e =
       let there : (j p : ℕ) → j < layout.ending_width → p ≡ ending_place i + j → at (decision_numbers d) p ≡ at (ending_numbers x) j = λ j p g place. rw e at (ending_at i h j p g place) in
-      ending_read i x (there 0 (ending_place i) (omega arith) (omega arith)) (there 1 (ending_place i + 1) (omega arith) (omega arith))
+      ending_read (decision_numbers d) i x (there 0 (ending_place i) (omega arith) (omega arith)) (there 1 (ending_place i + 1) (omega arith) (omega arith))
 
   state_behind : drop answer_record (decision_numbers d) ≡ state_numbers d.answer d.state
   unfolding decision_numbers

@@ -1,5 +1,4 @@
-use Rattle.std.proofs.Common.{rules, length, ◌≡◌}
-use native.Mathlib.Omega.{arith}
+use Rattle.std.proofs.Common.{rules}
 use Rattle.host.proofs.WriteRowsLaws.{zeroed}
 use Rattle.host.proofs.rows.OptionRow.write.Goals as goal
 
