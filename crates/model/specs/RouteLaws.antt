@@ -1,29 +1,22 @@
--- Between the step rules and their code: routing worked out from rows and numbers first, and a retry's tests without a sum.
-use Rattle.std.specs.Prelude.{◌≡◌, Option, Some, None, Bool, ltb}
-use Rattle.std.proofs.Math.Path.{refl, sym, ap}
-use Rattle.std.proofs.Common.{◌∙◌}
+-- Between the step rules and their code: routing and the next attempt, worked out before they are stored in a record.
+use Rattle.std.specs.Prelude.{◌≡◌, Option, Some, None, Bool}
+use Rattle.std.proofs.Math.Path.{refl}
 use Rattle.std.proofs.Math.Bool.{true, false}
-use Prim.Native.Nat.{ℕ, ◌+◌, ◌-◌, ◌≤◌, ◌<◌, min}
-use native.Mathlib.Omega.{arith}
+use Prim.Native.Nat.{ℕ, ◌+◌, ◌<◌}
 use borrow.Author.Tests.{lt-ltb, le-ltb, le-leb, lt-leb, eq-eqb, ne_eqb}
 use Rattle.std.proofs.Math.Dec.{leb}
 use Rattle.laws.specs.Bool.{when◌then◌else◌, if_true, if_false, strict_and}
 use Rattle.workflow.specs.Code.{exhausted}
-use Rattle.model.specs.Code.{store, largest, running, scheduled, largest_attempt}
+use Rattle.model.specs.Code.{running}
 use Rattle.workflow.specs.View.{Workflow}
-use Rattle.workflow.specs.Lookup.{node_slots, node_of, route_of}
+use Rattle.workflow.specs.Lookup.{node_of, route_of}
 use Rattle.workflow.specs.declared.refusal.Refusal.{Refusal}
-use Rattle.model.specs.declared.Output.{Output}
 use Rattle.model.specs.declared.BufferedSignal.{BufferedSignal}
-use Rattle.model.specs.declared.Position.{Position}
 use Rattle.model.specs.declared.Streak.{Streak}
 use Rattle.model.specs.declared.State.{State}
-use Rattle.model.specs.declared.answer.Ended.{Ended}
 use Rattle.model.specs.declared.answer.Ending.{Ending}
 use Rattle.model.specs.declared.answer.Noted.{Noted}
 use Rattle.model.specs.declared.answer.Note.{Note}
-use Rattle.model.specs.declared.answer.Order.{Order}
-use Rattle.model.specs.declared.InvocationState.{InvocationState}
 use Rattle.model.specs.declared.retry.Attempt.{Attempt}
 use Rattle.model.specs.declared.route.Routing.{Routing}
 use Rattle.model.specs.declared.route.Stored.{Stored}
@@ -32,11 +25,10 @@ use Rattle.model.specs.declared.moves.Next.{Next}
 use Rattle.model.specs.declared.moves.Next.TheVariants.{Rest, Enter, Take, Consume, Wants, Refuse}
 use Rattle.model.specs.declared.moves.Move.{Move}
 use Rattle.model.specs.Record.{placed, no_streak, streak_of, with_streak, with_result}
-use Rattle.model.specs.StoreLaws.{found_at, left_at}
 use Rattle.model.specs.Store.{first_signal, signal_at, removed}
 use Rattle.model.specs.Step.{streak_count, still, noting, follow_to, route_limited, take}
 
--- Tests, as the code makes them.
+-- The tests, as the code makes them.
 pub ruleset deciding = (if_true, if_false, le-ltb, lt-ltb, le-leb, lt-leb, eq-eqb, ne_eqb, strict_and)
 
 -- The outcome that is followed, the next streak and the note.
@@ -103,26 +95,6 @@ taking f s Take x = take f s x Rest
 taking f s Consume x = consumed f s (first_signal s (node_of f s.position.node).signal)
 taking f s (Wants n i c) x = still s (Wants n i c)
 taking f s (Refuse n) x = still s (Refuse n)
-
--- What is taken where the store is consumed: y, which the store gave where z is its place, of the record t that is left.
-abbrev pub found_taken : Workflow → Option BufferedSignal → State → Move
-found_taken f (Some y) t = take f t y Consume
-found_taken f None t = still t Rest
-
-pub consumes : (f : Workflow) (s : State) (z : Option ℕ) {y : Option BufferedSignal} {t : State} → y ≡ found_at s z → t ≡ left_at s z → found_taken f y t ≡ consumed f s z
-unfolding consumed found_at left_at
-consumes f s (Some i) h g = rw (h, g)
-consumes f s None h g = rw (h, g)
-
--- Nothing is taken.
-pub passed_on : (f : Workflow) (s : State) (n : Next) (x : BufferedSignal) → (n ≡ Take → ⊥) → (n ≡ Consume → ⊥) → still s n ≡ taking f s n x
-unfolding taking
-passed_on f s Take x h g = absurd (h refl)
-passed_on f s Consume x h g = absurd (g refl)
-passed_on f s Rest x h g = refl
-passed_on f s (Enter n c) x h g = refl
-passed_on f s (Wants n i c) x h g = refl
-passed_on f s (Refuse n) x h g = refl
 
 -- WHAT THE NEXT ATTEMPT MAKES of a record.
 abbrev pub tried : State → Option Attempt → Move

@@ -1,5 +1,5 @@
 // The moves that route a node's outcome and take a signal.
-#![tactic(auto, using(crate::specs::RouteLaws::deciding, crate::specs::RouteLaws::route_along), unfolding(crate::specs::RouteLaws::routing_of, crate::specs::RouteLaws::next_of, crate::specs::Step::route, crate::specs::Step::take_by))]
+#![tactic(auto, using(crate::specs::RouteLaws::deciding, crate::specs::RouteLaws::route_along), unfolding(crate::specs::RouteLaws::routing_of, crate::specs::RouteLaws::next_of, crate::specs::Step::route, crate::specs::Step::take_by, crate::specs::RouteLaws::taking, crate::specs::RouteLaws::consumed, crate::specs::StoreLaws::found_at, crate::specs::StoreLaws::left_at))]
 
 ghost use Rattle.std.specs.Prelude.{◌≡◌, eqb};
 ghost use Rattle.laws.specs.Bool.{◌and◌};
@@ -225,7 +225,6 @@ impl State {
     }
 
     // A signal is taken where one is to be: the one that arrived, or the oldest stored one of the name that the node waits for. Else nothing is.
-    #[tactic(auto, using(crate::specs::RouteLaws::consumes, crate::specs::RouteLaws::passed_on), unfolding(crate::specs::RouteLaws::taking, crate::specs::RouteLaws::consumed, crate::specs::StoreLaws::found_at, crate::specs::StoreLaws::left_at))]
     pub fn take(mut self, w: &[u32; NUMBERS], next: Next, arrived: BufferedSignal) -> Move
         ensures { result ≡ taking (workflow w.now) self next arrived }
     {
