@@ -11,12 +11,12 @@ pub starting_at-routes-requires : goal.starting_at-routes-requires
 starting_at-routes-requires g c = (c.loop-node.invariant.place, rw c.capped-k.ensures (routes_rise _ c.requires.formed))
 
 pub returns-then-breaks : goal.returns-then-breaks
-returns-then-breaks g c = λ p h. seek_hit (c.loop-node.invariant.seek p h) (omega arith) refl (h _ _ _ (the_group c.requires.formed c.capped-k.ensures c.starting_at-routes.ensures) c.breaks.ensures) c.if-breaks.true
+returns-then-breaks g c = λ p h. seek_hit (c.loop-node.invariant.seek p h) (omega arith) refl (h _ _ refl c.breaks.ensures) c.if-breaks.true
 
 pub loop-node-preserved : goal.loop-node-preserved
 loop-node-preserved g c = record {
   place = ap (λ (r : Rows). r.to) c.starting_at-routes.ensures;
-  seek = λ p h. seek_miss (c.loop-node.invariant.seek p h) (omega arith) refl (h _ _ _ (the_group c.requires.formed c.capped-k.ensures c.starting_at-routes.ensures) c.breaks.ensures) c.if-breaks.false;
+  seek = λ p h. seek_miss (c.loop-node.invariant.seek p h) (omega arith) refl (h _ _ refl c.breaks.ensures) c.if-breaks.false;
 }
 
 pub returns : goal.returns
