@@ -270,9 +270,6 @@ pub record Again (xs : List ℕ) (whole : Bool) (m : List Bool) (i : ℕ) : Type
   pub long : length m ≡ 256
   pub left : again m (drop i xs) ≡ whole
 
-pub again_start : {xs : List ℕ} (t : Bool) → Again xs (again (reserved_marks t) xs) (reserved_marks t) 0
-again_start t = record { long = reserved_long t; left = refl }
-
 module _ {xs : List ℕ} {whole : Bool} {m : List Bool} {i : ℕ} (inv : Again xs whole m i) where
   pub again_hit : i < length xs → get_or m (get_or xs i 0) false ≡ true → true ≡ whole
   unfolding again ◌or◌

@@ -113,6 +113,7 @@ pub fn rule_6(w: &[u32; NUMBERS], c: Ceilings) -> Result<(), Broken>
 // Rules 16 and 7, action by action.
 
 // An outcome is reserved, or stands there twice.
+// Kept: `two` says what is marked at first; and a loop, since each outcome is marked when it has been looked at (d).
 fn is_declared_again(outcomes: &[u32], two: bool) -> bool
     requires { AreOutcomes outcomes.now }
     ensures { result ≡ again (reserved_marks two) outcomes.now }
@@ -177,6 +178,7 @@ pub fn actions_verdict(w: &[u32; NUMBERS], c: Ceilings) -> Result<(), Broken>
 // Rules 8, 9 and 12, node by node.
 
 // The outcomes that an activity may route: those its action declares, failed, and exhausted where it may.
+// Kept: `exhausted` is one of the marks (d).
 fn known(declared: &[u32], exhausted: bool) -> [bool; OUTCOMES]
     requires { AreOutcomes declared.now }
     ensures { result ≡ known (marked declared.now) exhausted }
@@ -302,6 +304,7 @@ impl<'a> At<'a> {
     fn breaks_12(&self) -> bool
         ensures { result ≡ breaks_12 (workflow self.now.sheet.now) self.now.node }
     {
+        // Kept: early answers, since the limits are looked for only behind them; in `misses` the marks change behind one (d).
         if self.row().has_limits != 1 {
             return false;
         }
@@ -335,6 +338,8 @@ fn lowest_breaking<'a, F: Fn(&At<'a>) -> bool>(w: &'a [u32; NUMBERS], breaks: F)
     }
     None
 }
+
+// Kept: a line each, for the rule's refusal and its method (d).
 
 pub fn rule_8(w: &[u32; NUMBERS]) -> Result<(), Broken>
     requires { form (workflow w.now) ≡ true }

@@ -1,7 +1,7 @@
 use Rattle.std.proofs.Common.{refl, ap, arith}
 use Rattle.laws.specs.First.{seek_start, seek_hit, seek_miss, seek_end}
 use Rattle.graph.specs.declared.search.Rows.{Rows}
-use Rattle.graph.specs.RulesLaws.{routes_rise, the_group, first_place}
+use Rattle.graph.specs.RulesLaws.{routes_rise, first_place}
 use Rattle.graph.proofs.rules.lowest_breaking.Goals as goal
 
 pub loop-node-init : goal.loop-node-init
