@@ -7,6 +7,9 @@ ghost use Rattle.codec.specs.Stored.{place_of, Stored, ZeroFrom};
 
 use crate::numbers::{numbers_size, numbers_zero, read_numbers, write_numbers};
 
+// Kept: the numbers and the plan of their columns stand beside one another, since the plan is worked out anew for each call; a struct
+// of both would be made in each call and taken apart in it (d).
+
 // How many slots a column has, and how many of them are used.
 #[derive(Clone, Copy)]
 pub struct Column {
@@ -38,6 +41,7 @@ pub fn columns_tidy(xs: &[u32], plan: &[Column]) -> bool
     ensures { result ≡ (columns (2 ^ 32) plan.now).tidy (part xs.now 0 (total plan.now)) }
 {
     let mut first: usize = 0;
+    // Kept: a loop, since each column begins where the one before ends, here as in the other three (d).
     for column in plan {
         if column.room < column.used {
             return false;

@@ -15,6 +15,8 @@ pub struct Number {
     pub next: usize,
 }
 
+// Kept: bytes and a place, here and in what reads and writes below: document 01's reader of a slice and a position (a).
+
 // The groups behind a first one whose seven bits are low. None: the bytes are bad.
 fn following(bytes: &[u8], start: usize, low: u64) -> Option<Number>
     requires { low < 128 }
@@ -114,6 +116,7 @@ pub trait Unsigned: Copy {
     ghost set_in: { (xs : List Self) (i : ℕ) (x : Self) → as_numbers (set xs i x) ≡ set (as_numbers xs) i (as_number x) };
 }
 
+// Kept: two impls of one-line bodies, since a cast, a call and a literal of each type differ (d).
 impl Unsigned for u32 {
     ghost as_number = { λ x. x };
 
@@ -126,6 +129,7 @@ impl Unsigned for u32 {
     }
 
     fn narrowed(number: u64) -> u32 {
+        // Kept: number < 2 ^ 32 is required; u32::try_from would ask for an answer where it fails (d).
         number as u32
     }
 

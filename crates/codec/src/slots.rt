@@ -45,10 +45,7 @@ impl Slot {
         requires { length xs.now ≡ self.before + suc self.after }
         ensures { result ≡ (slot (2 ^ 64) self.before self.after).tidy xs.now }
     {
-        if xs[self.before] == 0 {
-            return numbers_zero(xs);
-        }
-        true
+        xs[self.before] != 0 || numbers_zero(xs)
     }
 
     // How many bytes a slot takes.
@@ -80,7 +77,8 @@ impl Slot {
     }
 }
 
-// Kept: k stands beside the numbers here and below, since a caller's may be more than those of k slots (d).
+// Kept: k stands beside the numbers here and below, since a caller's may be more than those of k slots (d). What is required of both
+// differs from function to function, so a type of both would have only the bound that each function has (d).
 
 // Slots, k of them, from bytes into an array that is zero.
 pub fn read_slots(bytes: &[u8], start: usize, out: &mut [u64], one: Slot, k: usize) -> Option<usize>
@@ -103,6 +101,7 @@ pub fn slots_tidy(xs: &[u64], one: Slot, k: usize) -> bool
     requires { (one.before + suc one.after) * k ≤ length xs.now }
     ensures { result ≡ (slots (2 ^ 64) one.before one.after k).tidy (part xs.now 0 ((one.before + suc one.after) * k)) }
 {
+    // Kept: a loop, since each slot begins where the one before ends, here as in the other three (d).
     let mut first: usize = 0;
     for _n in 0..k {
         let end = one.end(first);

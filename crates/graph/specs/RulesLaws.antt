@@ -270,9 +270,6 @@ pub record Again (xs : List ℕ) (whole : Bool) (m : List Bool) (i : ℕ) : Type
   pub long : length m ≡ 256
   pub left : again m (drop i xs) ≡ whole
 
-pub again_start : {xs : List ℕ} (t : Bool) → Again xs (again (reserved_marks t) xs) (reserved_marks t) 0
-again_start t = record { long = reserved_long t; left = refl }
-
 module _ {xs : List ℕ} {whole : Bool} {m : List Bool} {i : ℕ} (inv : Again xs whole m i) where
   pub again_hit : i < length xs → get_or m (get_or xs i 0) false ≡ true → true ≡ whole
   unfolding again ◌or◌
@@ -610,15 +607,15 @@ module _ {w : List ℕ} {n a b : ℕ} (g : Group w layout.route_node (route_rows
   pub misroutes_at : misroutes (workflow w) n x
       ≡ (some (unmarked (marked (span (cell w layout.route_outcome) a b))) (span (cell w layout.declared_outcome) p q)
       or some (unmarked (known (marked (span (cell w layout.declared_outcome) p q)) (may_route_exhausted (workflow w) n))) (span (cell w layout.route_outcome) a b)
-      or some (leb (at w layout.node_count)) (span (cell w layout.route_target) a b))
+      or some (leads_nowhere (workflow w) n) (workflow w).routes)
   unfolding misroutes
-  misroutes_at = rw (unrouted_among, extra_among, nowhere_among g)
+  misroutes_at = rw (unrouted_among, extra_among)
 
 -- RULE 9.
 pub breaks_9_at : {w : List ℕ} {n a b : ℕ} → Group w layout.route_node (route_rows w) n a b
-    → breaks_9 (workflow w) n ≡ eqb (node_of (workflow w) n).kind await_signal and (eqb a b or routes_exhausted (workflow w) n or some (leb (at w layout.node_count)) (span (cell w layout.route_target) a b))
+    → breaks_9 (workflow w) n ≡ eqb (node_of (workflow w) n).kind await_signal and (eqb a b or routes_exhausted (workflow w) n or some (leads_nowhere (workflow w) n) (workflow w).routes)
 unfolding breaks_9 routes_exhausted
-breaks_9_at {a = a} {b = b} g = rw (routes_any g, not_not (eqb a b), nowhere_among g)
+breaks_9_at {a = a} {b = b} g = rw (routes_any g, not_not (eqb a b))
 
 -- RULE 12. The marks but for exhausted.
 unlike : (m : List Bool) (o : ℕ) → length m ≡ 256 → not (get_or (set m exhausted false) o false) ≡ eqb o exhausted or not (get_or m o false)

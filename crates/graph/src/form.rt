@@ -107,6 +107,7 @@ fn ascends(a: u32, b: u32, x: u32, y: u32) -> bool
     (a, b) < (x, y)
 }
 
+// Kept: columns by their places and a count, here and below, since the sheet is lent as one array of numbers (a).
 // The order of the first `count` rows: strictly ascending by two columns, or grouped by a rising one.
 
 fn rows_ascend(w: &[u32; NUMBERS], major: usize, minor: usize, count: usize) -> bool
@@ -127,6 +128,7 @@ fn rows_rise(w: &[u32; NUMBERS], key: usize, count: usize) -> bool
 }
 
 // All rows of a sort, in their order.
+// Kept: five functions, since each names its count, its order and its row's test; one function of these four would take them as parameters (d).
 
 fn nodes_formed(w: &[u32; NUMBERS]) -> bool
     ensures { result ≡ nodes_formed (workflow w.now) }

@@ -34,6 +34,7 @@ pub struct Broken<R = Refusal> {
 }
 
 // A rule of the whole sheet, or of the call.
+// Kept: holds is the answer of a test, and no mark of another value (d).
 pub fn rule<R: Copy>(refusal: R, holds: bool) -> Result<(), Broken<R>>
     ensures { result ≡ rule refusal holds }
 {
@@ -57,6 +58,8 @@ fn rule_at(refusal: Refusal, found: Option<u32>) -> Result<(), Broken>
 }
 
 // The stages, in the order of the definition.
+// Kept: a stage requires what the stages before it have found, as the definition's chain of stages has it: the form, then also the start, then
+// rules 8, 9 and 12 (d).
 
 fn reach_verdict(w: &[u32; NUMBERS]) -> Result<(), Broken>
     requires { Rules (workflow w.now) }

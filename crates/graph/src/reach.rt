@@ -21,6 +21,7 @@ fn bit(n: u32) -> u64
 }
 
 // A route, from its target to its node where back is true.
+// Kept: back is a bool here and below, as in the definition: it is tested in this function alone (d).
 fn turned(back: bool, x: Route) -> Route
     ensures { result ≡ turned back x }
 {
@@ -58,6 +59,7 @@ fn closed(w: &[u32; NUMBERS], back: bool, start: u64) -> u64
     let mut set = start;
     let mut done: u64 = 0;
     let mut frontier = start;
+    // Kept: the set itself says how often the loop runs, so there is no range to go over (d).
     while frontier != 0 {
         let n = u64::trailing_zeros(frontier);
         done |= bit(n);

@@ -1,15 +1,18 @@
 // Rules 1, 3, 5 to 9, 12 and 16 of a sheet whose form holds.
-ghost use Rattle.std.specs.Prelude.{◌≡◌, Bool, true, ℕ, leb, eqb, ltb};
+ghost use Rattle.std.specs.Prelude.{◌≡◌, Bool, true, ℕ, eqb, ltb};
+ghost use Rattle.std.specs.Borrow.{Bor};
 ghost use Rattle.std.specs.List.{zip};
 ghost use Rattle.laws.specs.Bool.{◌and◌, ◌or◌};
 ghost use Rattle.laws.specs.First.{some};
+ghost use Rattle.laws.specs.Rows.{span};
 ghost use Rattle.workflow.specs.Code.{format_0_1};
 ghost use Rattle.workflow.specs.declared.refusal.Refusal.{Refusal};
-ghost use Rattle.workflow.specs.View.{workflow};
-ghost use Rattle.workflow.specs.Lookup.{is_0_2};
+ghost use Rattle.workflow.specs.Layout as layout;
+ghost use Rattle.workflow.specs.View.{workflow, cell};
+ghost use Rattle.workflow.specs.Lookup.{is_0_2, node_of};
 ghost use Rattle.graph.specs.Lowest.{lowest};
 ghost use Rattle.graph.specs.Form.{form};
-ghost use Rattle.graph.specs.Rules.{within, may_route_exhausted, breaks_1, breaks_7, breaks_8, breaks_9, breaks_12};
+ghost use Rattle.graph.specs.Rules.{within, leads_nowhere, may_route_exhausted, breaks_1, breaks_7, breaks_8, breaks_9, breaks_12};
 ghost use Rattle.graph.specs.Verdict.{rule, rule_at, action_verdict, actions_verdict};
 ghost use Rattle.graph.specs.RulesLaws.{AreOutcomes, marked, unmarked, again, reserved_marks, known, out_of_range, bad_row, RoutesOf, LimitsOf, DeclaredOf, misroutes, routes_exhausted, misses};
 
@@ -17,7 +20,7 @@ use crate::search::Rows;
 use crate::{Broken, Ceilings, rule, rule_at};
 use workflow::layout::NUMBERS;
 use workflow::refusal::Refusal;
-use workflow::{capped, code, is_0_2, layout, node_of, policy_of};
+use workflow::{Node, capped, code, is_0_2, layout, node_of, policy_of};
 
 // Outcomes are below 255.
 const OUTCOMES: usize = 256;
@@ -110,6 +113,7 @@ pub fn rule_6(w: &[u32; NUMBERS], c: Ceilings) -> Result<(), Broken>
 // Rules 16 and 7, action by action.
 
 // An outcome is reserved, or stands there twice.
+// Kept: `two` says what is marked at first; and a loop, since each outcome is marked when it has been looked at (d).
 fn is_declared_again(outcomes: &[u32], two: bool) -> bool
     requires { AreOutcomes outcomes.now }
     ensures { result ≡ again (reserved_marks two) outcomes.now }
@@ -171,16 +175,10 @@ pub fn actions_verdict(w: &[u32; NUMBERS], c: Ceilings) -> Result<(), Broken>
     Ok(())
 }
 
-// Rule 8.
-
-// In format 2 a node routes exhausted only when it has loop limits.
-fn may_route_exhausted(w: &[u32; NUMBERS], node: u32) -> bool
-    ensures { result ≡ may_route_exhausted (workflow w.now) node }
-{
-    is_0_2(w) && node_of(w, node).has_limits == 1
-}
+// Rules 8, 9 and 12, node by node.
 
 // The outcomes that an activity may route: those its action declares, failed, and exhausted where it may.
+// Kept: `exhausted` is one of the marks (d).
 fn known(declared: &[u32], exhausted: bool) -> [bool; OUTCOMES]
     requires { AreOutcomes declared.now }
     ensures { result ≡ known (marked declared.now) exhausted }
@@ -190,67 +188,6 @@ fn known(declared: &[u32], exhausted: bool) -> [bool; OUTCOMES]
     known[OUTCOME_EXHAUSTED] |= exhausted;
     known
 }
-
-// A target is no node.
-fn leads_nowhere(targets: &[u32], nodes: u32) -> bool
-    ensures { result ≡ some (leb nodes) targets.now }
-{
-    targets.iter().any(|target| nodes <= *target)
-}
-
-// The outcomes of an activity are not those of its action, or lead to no node.
-fn misroutes(w: &[u32; NUMBERS], node: u32, routes: Rows, action: u32) -> bool
-    requires { RoutesOf w.now node routes }
-    ensures { result ≡ misroutes (workflow w.now) node action }
-{
-    let k = capped(w[layout::DECLARED_COUNT], layout::DECLARED);
-    let rows = Rows::of(w, layout::DECLARED_ACTION, k, action);
-    let declared = rows.numbers(w, layout::DECLARED_OUTCOME);
-    let routed = routes.numbers(w, layout::ROUTE_OUTCOME);
-    let exhausted = may_route_exhausted(w, node);
-    has_unmarked(declared, &marks(routed))
-        || has_unmarked(routed, &known(declared, exhausted))
-        || leads_nowhere(
-            routes.numbers(w, layout::ROUTE_TARGET),
-            w[layout::NODE_COUNT],
-        )
-}
-
-fn breaks_8(w: &[u32; NUMBERS], node: u32, routes: Rows) -> bool
-    requires { RoutesOf w.now node routes }
-    ensures { result ≡ breaks_8 (workflow w.now) node }
-{
-    let x = node_of(w, node);
-    x.kind == code::ACTIVITY
-        && (w[layout::ACTION_COUNT] <= x.action || misroutes(w, node, routes, x.action))
-}
-
-// Rule 9.
-
-// In format 2, exhausted is routed without loop limits.
-fn routes_exhausted(w: &[u32; NUMBERS], node: u32, routes: Rows) -> bool
-    requires { RoutesOf w.now node routes }
-    ensures { result ≡ routes_exhausted (workflow w.now) node }
-{
-    let routed = routes.numbers(w, layout::ROUTE_OUTCOME);
-    is_0_2(w) && routed.contains(&code::EXHAUSTED) && !may_route_exhausted(w, node)
-}
-
-fn breaks_9(w: &[u32; NUMBERS], node: u32, routes: Rows) -> bool
-    requires { RoutesOf w.now node routes }
-    ensures { result ≡ breaks_9 (workflow w.now) node }
-{
-    let x = node_of(w, node);
-    x.kind == code::AWAIT_SIGNAL
-        && (routes.is_empty()
-            || routes_exhausted(w, node, routes)
-            || leads_nowhere(
-                routes.numbers(w, layout::ROUTE_TARGET),
-                w[layout::NODE_COUNT],
-            ))
-}
-
-// Rule 12.
 
 // Kept: | here and in `has_bad_limit`, since with || a verdict on a full sheet takes 1.15 times as long (b).
 // A limit that is 0 or not below the most visits: one more than it stays at the largest number.
@@ -269,50 +206,132 @@ fn has_bad_limit(outcomes: &[u32], limits: &[u32], m: &[bool; OUTCOMES], most: u
         | is_out_of_range(most, *limit))
 }
 
-// A loop limit is bad, or on exhausted, or exhausted is not routed.
-fn misses(w: &[u32; NUMBERS], node: u32, routes: Rows, limits: Rows) -> bool
-    requires { RoutesOf w.now node routes × LimitsOf w.now node limits }
-    ensures { result ≡ misses (workflow w.now) node }
-{
-    let mut routed = marks(routes.numbers(w, layout::ROUTE_OUTCOME));
-    if !routed[OUTCOME_EXHAUSTED] {
-        return true;
-    }
-    routed[OUTCOME_EXHAUSTED] = false;
-    has_bad_limit(
-        limits.numbers(w, layout::LIMIT_OUTCOME),
-        limits.numbers(w, layout::LIMIT_LIMIT),
-        &routed,
-        w[layout::MAX_VISITS_PER_NODE],
-    )
+// A node of a formed sheet, with its routes.
+#[derive(Clone, Copy)]
+struct At<'a> {
+    sheet: &'a [u32; NUMBERS],
+    node: u32,
+    routes: Rows,
+    ghost of_node: { RoutesOf sheet.now node routes },
 }
 
-fn breaks_12(w: &[u32; NUMBERS], node: u32, routes: Rows) -> bool
-    requires { RoutesOf w.now node routes }
-    ensures { result ≡ breaks_12 (workflow w.now) node }
-{
-    if node_of(w, node).has_limits != 1 {
-        return false;
+impl<'a> At<'a> {
+    fn row(&self) -> Node
+        ensures { result ≡ node_of (workflow self.now.sheet.now) self.now.node }
+    {
+        node_of(self.sheet, self.node)
     }
-    if !is_0_2(w) {
-        return true;
+
+    // The outcomes that are routed.
+    fn outcomes(&self) -> &'a [u32]
+        ensures value { result.now ≡ span (cell self.now.sheet.now layout.route_outcome) self.now.routes.from self.now.routes.to }
+        ensures small { AreOutcomes result.now }
+    {
+        self.routes.numbers(self.sheet, layout::ROUTE_OUTCOME)
     }
-    let k = capped(w[layout::LIMIT_COUNT], layout::LIMITS);
-    let limits = Rows::of(w, layout::LIMIT_NODE, k, node);
-    limits.is_empty() || misses(w, node, routes, limits)
+
+    // A target is no node.
+    fn leads_nowhere(&self) -> bool
+        ensures { result ≡ some (leads_nowhere (workflow self.now.sheet.now) self.now.node) (workflow self.now.sheet.now).routes }
+    {
+        let nodes = self.sheet[layout::NODE_COUNT];
+        let targets = self.routes.numbers(self.sheet, layout::ROUTE_TARGET);
+        targets.iter().any(|target| nodes <= *target)
+    }
+
+    // In format 2 a node routes exhausted only when it has loop limits.
+    fn may_route_exhausted(&self) -> bool
+        ensures { result ≡ may_route_exhausted (workflow self.now.sheet.now) self.now.node }
+    {
+        is_0_2(self.sheet) && self.row().has_limits == 1
+    }
+
+    // The outcomes of an activity are not those of its action, or lead to no node.
+    fn misroutes(&self, action: u32) -> bool
+        ensures { result ≡ misroutes (workflow self.now.sheet.now) self.now.node action }
+    {
+        let k = capped(self.sheet[layout::DECLARED_COUNT], layout::DECLARED);
+        let rows = Rows::of(self.sheet, layout::DECLARED_ACTION, k, action);
+        let declared = rows.numbers(self.sheet, layout::DECLARED_OUTCOME);
+        let routed = self.outcomes();
+        has_unmarked(declared, &marks(routed))
+            || has_unmarked(routed, &known(declared, self.may_route_exhausted()))
+            || self.leads_nowhere()
+    }
+
+    fn breaks_8(&self) -> bool
+        ensures { result ≡ breaks_8 (workflow self.now.sheet.now) self.now.node }
+    {
+        let x = self.row();
+        x.kind == code::ACTIVITY
+            && (self.sheet[layout::ACTION_COUNT] <= x.action || self.misroutes(x.action))
+    }
+
+    // In format 2, exhausted is routed without loop limits.
+    fn routes_exhausted(&self) -> bool
+        ensures { result ≡ routes_exhausted (workflow self.now.sheet.now) self.now.node }
+    {
+        let routed = self.outcomes();
+        is_0_2(self.sheet) && routed.contains(&code::EXHAUSTED) && !self.may_route_exhausted()
+    }
+
+    fn breaks_9(&self) -> bool
+        ensures { result ≡ breaks_9 (workflow self.now.sheet.now) self.now.node }
+    {
+        let x = self.row();
+        x.kind == code::AWAIT_SIGNAL
+            && (self.routes.is_empty() || self.routes_exhausted() || self.leads_nowhere())
+    }
+
+    // A loop limit is bad, or on exhausted, or exhausted is not routed.
+    fn misses(&self, limits: Rows) -> bool
+        requires { LimitsOf self.now.sheet.now self.now.node limits }
+        ensures { result ≡ misses (workflow self.now.sheet.now) self.now.node }
+    {
+        let mut routed = marks(self.outcomes());
+        if !routed[OUTCOME_EXHAUSTED] {
+            return true;
+        }
+        routed[OUTCOME_EXHAUSTED] = false;
+        has_bad_limit(
+            limits.numbers(self.sheet, layout::LIMIT_OUTCOME),
+            limits.numbers(self.sheet, layout::LIMIT_LIMIT),
+            &routed,
+            self.sheet[layout::MAX_VISITS_PER_NODE],
+        )
+    }
+
+    fn breaks_12(&self) -> bool
+        ensures { result ≡ breaks_12 (workflow self.now.sheet.now) self.now.node }
+    {
+        // Kept: early answers, since the limits are looked for only behind them; in `misses` the marks change behind one (d).
+        if self.row().has_limits != 1 {
+            return false;
+        }
+        if !is_0_2(self.sheet) {
+            return true;
+        }
+        let k = capped(self.sheet[layout::LIMIT_COUNT], layout::LIMITS);
+        let limits = Rows::of(self.sheet, layout::LIMIT_NODE, k, self.node);
+        limits.is_empty() || self.misses(limits)
+    }
 }
 
-// The lowest node that breaks a rule, which is told the node and its routes.
-fn lowest_breaking<F: Fn(u32, Rows) -> bool>(w: &[u32; NUMBERS], breaks: F) -> Option<u32>
+// The lowest node that breaks a rule.
+fn lowest_breaking<'a, F: Fn(&At<'a>) -> bool>(w: &'a [u32; NUMBERS], breaks: F) -> Option<u32>
     requires formed { form (workflow w.now) ≡ true }
-    requires callable { (node : ℕ) (routes : Rows) → RoutesOf w.now node routes → F.pre breaks node routes }
-    ensures { (p : ℕ → Bool) → ((node : ℕ) (routes : Rows) (b : Bool) → RoutesOf w.now node routes → F.post breaks node routes b → b ≡ p node) → result ≡ lowest (workflow w.now).node_count p }
+    requires callable { F.IsAlwaysCallable breaks }
+    ensures { (p : ℕ → Bool) → ((at : Bor At) (b : Bool) → at.now.sheet.now ≡ w.now → F.post breaks at b → b ≡ p at.now.node) → result ≡ lowest (workflow w.now).node_count p }
 {
     let k = capped(w[layout::ROUTE_COUNT], layout::ROUTES);
     let mut from = 0;
     for node in 0..w[layout::NODE_COUNT] {
         let routes = Rows::starting_at(w, layout::ROUTE_NODE, from, k, node);
-        if breaks(node, routes) {
+        if breaks(&At {
+            sheet: w,
+            node,
+            routes,
+        }) {
             return Some(node);
         }
         from = routes.to;
@@ -320,32 +339,25 @@ fn lowest_breaking<F: Fn(u32, Rows) -> bool>(w: &[u32; NUMBERS], breaks: F) -> O
     None
 }
 
+// Kept: a line each, for the rule's refusal and its method (d).
+
 pub fn rule_8(w: &[u32; NUMBERS]) -> Result<(), Broken>
     requires { form (workflow w.now) ≡ true }
     ensures { result ≡ rule_at Refusal.Activity (lowest (workflow w.now).node_count (breaks_8 (workflow w.now))) }
 {
-    rule_at(
-        Refusal::Activity,
-        lowest_breaking(w, |node, routes| breaks_8(w, node, routes)),
-    )
+    rule_at(Refusal::Activity, lowest_breaking(w, |at| at.breaks_8()))
 }
 
 pub fn rule_9(w: &[u32; NUMBERS]) -> Result<(), Broken>
     requires { form (workflow w.now) ≡ true }
     ensures { result ≡ rule_at Refusal.AwaitSignal (lowest (workflow w.now).node_count (breaks_9 (workflow w.now))) }
 {
-    rule_at(
-        Refusal::AwaitSignal,
-        lowest_breaking(w, |node, routes| breaks_9(w, node, routes)),
-    )
+    rule_at(Refusal::AwaitSignal, lowest_breaking(w, |at| at.breaks_9()))
 }
 
 pub fn rule_12(w: &[u32; NUMBERS]) -> Result<(), Broken>
     requires { form (workflow w.now) ≡ true }
     ensures { result ≡ rule_at Refusal.LoopLimits (lowest (workflow w.now).node_count (breaks_12 (workflow w.now))) }
 {
-    rule_at(
-        Refusal::LoopLimits,
-        lowest_breaking(w, |node, routes| breaks_12(w, node, routes)),
-    )
+    rule_at(Refusal::LoopLimits, lowest_breaking(w, |at| at.breaks_12()))
 }

@@ -14,6 +14,7 @@ pub struct Rows {
     pub to: usize,
 }
 
+// Kept: columns by their places and a count, since the sheet is lent as one array of numbers (a).
 impl Rows {
     // The rows with `key` in the first `count` of a column.
     pub fn of(w: &[u32; NUMBERS], column: usize, count: usize, key: u32) -> Rows

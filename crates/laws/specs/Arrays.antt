@@ -3,7 +3,6 @@ use Rattle.std.specs.Prelude.{◌≡◌, Bool, true, List, [], ◌∷◌, map, �
 use Rattle.std.proofs.Common.{sym, ◌∙◌, arith, length-set}
 use Rattle.std.proofs.Math.ListN.{get_or-eq_default}
 use Rattle.std.proofs.lemmas.List.{length-map, length-replicate, get_or-replicate}
-use Rattle.std.proofs.Math.Seq.{set_out}
 
 -- A struct's field holds an array as the list of its elements' forms.
 pub length_field : (A B : Type 0) (f : A → B) (l : List A) (n : ℕ) → length (map f l) ≡ n → length l ≡ n
@@ -15,9 +14,6 @@ module _ (A : Type 0) (l : List A) (n i : ℕ) (long : length l ≡ n) (past : n
 
   pub past_getD : (d : A) → d ≡ get_or l i d
   past_getD d = sym (get_or-eq_default l d above)
-
-  pub set_past : (a : A) → set l i a ≡ l
-  set_past a = set_out l i a above
 
 -- Slots: an array of m, each of which fits its place.
 pub record Slots {A : Type 0} (m : ℕ) (fits : ℕ → A → Bool) (none : A) (xs : List A) : Type 0 where

@@ -1,4 +1,5 @@
 // The numbers of a sheet in document 01.
+// Kept: numbers, since sheets are lent as numbers, and every number there has an answer: an enum would take fewer (a).
 
 // No node; an absent outcome.
 pub const NONE: u32 = 255;

@@ -58,6 +58,7 @@ pub fn capped(count: u32, room: usize) -> usize
 }
 
 // The rows as they stand, counted or not.
+// Kept: five functions, since each fills other fields from other columns; one over a trait would have five impls that do the same (d).
 
 pub fn node_at(w: &[u32; NUMBERS], i: usize) -> Node
     ensures { result ≡ node_at w.now i }
@@ -134,6 +135,8 @@ pub fn no_node() -> Node
 }
 
 // The lookups, over the rows that are counted.
+// Kept: those of nodes and actions, and of routes, limits and outcomes, name only their columns and what they answer without a row; what the
+// last three share is `find_row` (d).
 
 pub fn node_of(w: &[u32; NUMBERS], id: u32) -> Node
     ensures { result ≡ node_of (workflow w.now) id }
@@ -171,6 +174,7 @@ fn are(a: u32, b: u32, x: u32, y: u32) -> bool
 }
 
 // The value in the first row, of the first `count`, whose two keys are x and y.
+// Kept: columns by their places, since the sheet is lent as one array of numbers (a).
 fn find_row(
     w: &[u32; NUMBERS],
     major: usize,

@@ -45,6 +45,7 @@ impl Refusal {
     pub fn number(self) -> u32
         ensures { result ≡ number self }
     {
+        // Kept: a derive has no number, and an `impl From` would have this cast and a law about it (d).
         self as u32
     }
 }

@@ -1,10 +1,10 @@
 use Rattle.std.specs.Prelude.{◌≡◌, ℕ, Bool, Some, None}
+use Rattle.std.specs.Borrow.{Bor}
 use Rattle.laws.specs.First.{Seek}
 use Rattle.workflow.specs.Layout as layout
 use Rattle.workflow.specs.View.{at}
-use Rattle.graph.specs.declared.search.Rows.{Rows}
+use Rattle.graph.specs.declared.rules.At.{At}
 use Rattle.graph.specs.SearchLaws.{rows_below}
-use Rattle.graph.specs.RulesLaws.{RoutesOf}
 use Rattle.graph.specs.Lowest.{lowest}
 use Rattle.graph.proofs.rules.lowest_breaking.Given as goal
 
@@ -13,6 +13,6 @@ abbrev pub invariant-loop-node : goal.invariant-loop-node
 invariant-loop-node g l =
     record {
       place : l.from ≡ rows_below l.w layout.route_node l.k l.node;
-      seek : (p : ℕ → Bool) → ((node : ℕ) (routes : Rows) (b : Bool) → RoutesOf l.w node routes → goal.F-post g l.breaks node routes b → b ≡ p node)
+      seek : (p : ℕ → Bool) → ((at : Bor At) (b : Bool) → at.now.sheet.now ≡ l.w → goal.F-post g l.breaks at b → b ≡ p at.now.node)
           → Seek p (λ _ j. Some j) None (λ j. j) (at l.w layout.node_count) l.node (lowest (at l.w layout.node_count) p);
     }

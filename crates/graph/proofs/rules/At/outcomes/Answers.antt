@@ -1,0 +1,9 @@
+use Rattle.std.proofs.Common.{arith}
+use Rattle.graph.specs.RulesLaws.{routes_within, routes_outcomes}
+use Rattle.graph.proofs.rules.At.outcomes.Goals as goal
+
+pub numbers-requires : goal.numbers-requires
+numbers-requires c = routes_within c.args.self.now.of_node _ (omega arith)
+
+pub returns-clause-small : goal.returns-clause-small
+returns-clause-small c = rw c.numbers.ensures (routes_outcomes c.args.self.now.of_node)
