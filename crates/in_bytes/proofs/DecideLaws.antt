@@ -85,11 +85,6 @@ module _ (sheet call given array : List ℕ) (long : length array ≡ layout.ans
         let l : after ≡ array = left ∙ if_false _ _ _ (rw told at h) in
         rw (h, l) (says_unread array o))
 
--- Nothing was read.
-pub ended_bad : (size : ℕ) {read : Read (List ℕ)} → read ≡ bad → ended size read ≡ bad
-unfolding ended
-ended_bad size e = rw e
-
 -- THE LENGTHS of what was read.
 pub call_width : call.width ≡ layout.call_has_record + sheet_length + the_rest.room
 unfolding call staged beside numbers widths

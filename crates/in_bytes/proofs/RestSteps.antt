@@ -15,7 +15,7 @@ use Rattle.host.specs.Layout as layout
 use Rattle.host.specs.Write.{marked}
 use Rattle.codec.specs.Read.{Read, got, bad, onward}
 use Rattle.codec.specs.Leb.{number_at}
-use Rattle.codec.specs.Numbers.{number_below, numbers_at}
+use Rattle.codec.specs.Numbers.{number_below, numbers_at, part}
 use Rattle.codec.specs.Stages.{numbers, column, Stage}
 use Rattle.codec.specs.Stored.{place_of, Stored, ZeroFrom}
 use Rattle.codec.specs.Exact.{Bytes}
@@ -27,6 +27,7 @@ use Rattle.codec.proofs.ShapesLoops.{nothing_yet, getD_splice, behind}
 use Rattle.codec.proofs.ColumnsLaws.{column_read}
 use Rattle.codec.proofs.ColumnsLoops.{column_place, column_long, column_stored}
 use Rattle.codec.proofs.Zeros.{zero_behind}
+use Rattle.codec.proofs.PartLaws.{put_part, part_place, part_read}
 use Rattle.in_bytes.specs.Run.{run}
 use Rattle.in_bytes.specs.Call.{mark, given_shape, given, event_numbers, answered, answers, rest}
 use Rattle.in_bytes.specs.CallStored.{RestStored}
@@ -114,14 +115,23 @@ pub record Marked (bytes : List ℕ) (whole : Read (List ℕ)) (before : List �
   pub left : Left given_on bytes whole (get_or call layout.call_has_record 0 ∷ []) at
   pub held : MarkHeld before call
 
-module _ (bytes : List ℕ) (start : ℕ) {z : Option ℕ} (answer : z ≡ place_of (numbers_at (2 ^ 64) 1 bytes start)) where
+module _ (bytes : List ℕ) (start : ℕ) (before : List ℕ) (long : length before ≡ layout.call_length) {z : Option ℕ} (sliced : z ≡ place_of (numbers_at (2 ^ 64) (length (part before layout.call_has_record layout.call_sequence)) bytes start)) where
+  answer : z ≡ place_of (numbers_at (2 ^ 64) 1 bytes start)
+  answer = part_place (2 ^ 64) bytes start before layout.call_has_record layout.call_sequence (omega arith) (omega arith) sliced
+
   pub mark_bad : z ≡ None → rest.read bytes start ≡ bad
   unfolding numbers
   mark_bad b = left_bad (rest_start bytes start) (one_bad bytes start 2 (at_bad answer b))
 
-  module _ {before call : List ℕ} {p : ℕ} (e : z ≡ Some p) (long : length before ≡ layout.call_length) (stored : Stored (numbers_at (2 ^ 64) 1 bytes start) before layout.call_has_record call) where
+  module _ {ys : List ℕ} {p : ℕ} (e : z ≡ Some p) (read : Stored (numbers_at (2 ^ 64) (length (part before layout.call_has_record layout.call_sequence)) bytes start) (part before layout.call_has_record layout.call_sequence) 0 ys) where
+    abbrev marked_call : List ℕ
+    marked_call = put_part before layout.call_has_record layout.call_sequence ys
+
     abbrev number : ℕ
-    number = get_or call layout.call_has_record 0
+    number = get_or marked_call layout.call_has_record 0
+
+    stored : Stored (numbers_at (2 ^ 64) 1 bytes start) before layout.call_has_record marked_call
+    stored = part_read (2 ^ 64) bytes start before layout.call_has_record layout.call_sequence (omega arith) (omega arith) read
 
     -- what was read is that number
     number_read : numbers_at (2 ^ 64) 1 bytes start ≡ got (number ∷ []) p
@@ -135,7 +145,7 @@ module _ (bytes : List ℕ) (start : ℕ) {z : Option ℕ} (answer : z ≡ place
     unfolding numbers
     mark_over h = left_bad (rest_start bytes start) (one_over bytes start 2 number_read (omega arith))
 
-    pub mark_read : number ≤ 1 → ZeroFrom layout.call_has_record before → Marked bytes (rest.read bytes start) before p call
+    pub mark_read : number ≤ 1 → ZeroFrom layout.call_has_record before → Marked bytes (rest.read bytes start) before p marked_call
     unfolding numbers
     mark_read h blank =
         record {
@@ -221,11 +231,23 @@ module _ {bytes : List ℕ} {whole : Read (List ℕ)} {before : List ℕ} {at : 
       no_count bad e = refl
       no_count (got ys q) e = not_bad (sym e)
 
-  module _ {z : Option ℕ} (answer : z ≡ place_of both_parts) where
-    pub event_bad : z ≡ None → whole ≡ bad
-    event_bad b = behind_event (numbers_at (2 ^ 64) layout.event_length bytes at) refl (sym (numbers_two (2 ^ 64) bytes layout.event_length 1 at) ∙ at_bad answer b)
+  module _ {z : Option ℕ} (sliced : z ≡ place_of (numbers_at (2 ^ 64) (length (part call layout.call_sequence layout.call_mappings)) bytes at)) where
+    event_room : layout.call_mappings ≤ length call
+    event_room = let n = given_long in omega arith
 
-    module _ {after : List ℕ} {p : ℕ} (e : z ≡ Some p) (stored : Stored both_parts call layout.call_sequence after) where
+    event_told : z ≡ place_of both_parts
+    event_told = part_place (2 ^ 64) bytes at call layout.call_sequence layout.call_mappings (omega arith) event_room sliced
+
+    pub event_bad : z ≡ None → whole ≡ bad
+    event_bad b = behind_event (numbers_at (2 ^ 64) layout.event_length bytes at) refl (sym (numbers_two (2 ^ 64) bytes layout.event_length 1 at) ∙ at_bad event_told b)
+
+    module _ {ys : List ℕ} {p : ℕ} (e : z ≡ Some p) (read : Stored (numbers_at (2 ^ 64) (length (part call layout.call_sequence layout.call_mappings)) bytes at) (part call layout.call_sequence layout.call_mappings) 0 ys) where
+      abbrev after : List ℕ
+      after = put_part call layout.call_sequence layout.call_mappings ys
+
+      event_stored : Stored both_parts call layout.call_sequence after
+      event_stored = part_read (2 ^ 64) bytes at call layout.call_sequence layout.call_mappings (omega arith) event_room read
+
       abbrev count_of : ℕ
       count_of = get_or after layout.call_answered 0
 
@@ -240,7 +262,7 @@ module _ {bytes : List ℕ} {whole : Read (List ℕ)} {before : List ℕ} {at : 
 
       two_parts : TwoParts
       two_parts =
-          let g = at_got answer e in
+          let g = at_got event_told e in
           let a = both_read (numbers_at (2 ^ 64) layout.event_length bytes at) _ (sym (numbers_two (2 ^ 64) bytes layout.event_length 1 at) ∙ g.is) in
           let b = both_read (numbers_at (2 ^ 64) 1 bytes a.place) _ a.two in
           let t = b.two in
@@ -249,7 +271,7 @@ module _ {bytes : List ℕ} {whole : Read (List ℕ)} {before : List ℕ} {at : 
           let n = numbers_long (2 ^ 64) bytes layout.event_length at a.value a.place a.one in
           let m = numbers_long (2 ^ 64) bytes 1 a.place b.value b.place b.one in
           let l = given_long in
-          let s : after ≡ splice call layout.call_sequence (a.value ++ b.value) = stored.is g.value p g.is ∙ ap (splice call layout.call_sequence) (sym x) in
+          let s : after ≡ splice call layout.call_sequence (a.value ++ b.value) = event_stored.is g.value p g.is ∙ ap (splice call layout.call_sequence) (sym x) in
           let k = length-append a.value b.value in
           let i : layout.event_length ≡ length a.value + 0 = omega arith in
           let c : count_of ≡ get_or b.value 0 0 =
@@ -345,9 +367,14 @@ module _ {bytes : List ℕ} {whole : Read (List ℕ)} {before : List ℕ} {at : 
         stored.is ns p e ∙ ap (λ (xs : List ℕ). splice xs layout.call_mappings ns) inv.is ∙ splice_more before layout.call_has_record (inv.mark ∷ inv.event) ns layout.call_mappings (sym i) (omega arith) in
         (a ∙ got_place all, got_rest all (c ∙ ap (λ (xs : List ℕ). splice before layout.call_has_record (inv.mark ∷ xs)) (sym d)) (sym t))
 
-  pub answers_read : {z : Option ℕ} {after : List ℕ} {end : ℕ} → end ≡ layout.call_mappings + layout.mapping_width * get_or call layout.call_answered 0 → z ≡ place_of (numbers_at (2 ^ 64) (end - layout.call_mappings) bytes at) → Stored (numbers_at (2 ^ 64) (end - layout.call_mappings) bytes at) call layout.call_mappings after → (z ≡ place_of whole) × RestStored whole before after run
-  answers_read {z} {after} {end} ends answer stored =
-      let c = inv.count in
-      let many : end - layout.call_mappings ≡ used = omega arith in
+  answers_by : {z : Option ℕ} {after : List ℕ} {n : ℕ} → n ≡ used → z ≡ place_of (numbers_at (2 ^ 64) n bytes at) → Stored (numbers_at (2 ^ 64) n bytes at) call layout.call_mappings after → (z ≡ place_of whole) × RestStored whole before after run
+  answers_by many answer stored =
       let n = counted_long in
       by_answers (column_stored (2 ^ 64) room used bytes at used_few (omega arith) none_yet (rw many at stored)) ((column (2 ^ 64) room used).read bytes at) refl (column_place (2 ^ 64) room used bytes at used_few (rw many at answer))
+
+  pub answers_read : {z : Option ℕ} {ys : List ℕ} {end : ℕ} → end ≡ layout.call_mappings + layout.mapping_width * get_or call layout.call_answered 0 → z ≡ place_of (numbers_at (2 ^ 64) (length (part call layout.call_mappings end)) bytes at) → Stored (numbers_at (2 ^ 64) (length (part call layout.call_mappings end)) bytes at) (part call layout.call_mappings end) 0 ys → (z ≡ place_of whole) × RestStored whole before (put_part call layout.call_mappings end ys) run
+  answers_read {end = end} ends sliced read =
+      let c = inv.count in
+      let f = inv.few in
+      let n = counted_long in
+      answers_by (omega arith) (part_place (2 ^ 64) bytes at call layout.call_mappings end (omega arith) (omega arith) sliced) (part_read (2 ^ 64) bytes at call layout.call_mappings end (omega arith) (omega arith) read)
