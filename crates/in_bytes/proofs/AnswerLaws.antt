@@ -1,6 +1,6 @@
 -- An answer as bytes: both ways; and in two parts, what stands before the run, and the run.
-use Rattle.std.specs.Prelude.{◌≡◌, eqb, leb, length}
-use Rattle.std.proofs.Common.{sym, ◌∙◌, length-append, drop_of_length-le, take-take, take_all, leb-true, leb-false, eq-eqb, ne_eqb}
+use Rattle.std.specs.Prelude.{◌≡◌, eqb, length}
+use Rattle.std.proofs.Common.{sym, ◌∙◌, length-append, drop_of_length-le, eq-eqb, ne_eqb}
 use Rattle.std.proofs.Math.Path.{ap}
 use mathlib.Core.List.{List, [], ◌++◌, append_assoc, append-nil}
 use Prim.Native.Nat.{ℕ, ◌+◌, ◌*◌, ◌-◌, ◌≤◌, min}

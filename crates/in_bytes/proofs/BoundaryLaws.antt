@@ -7,7 +7,7 @@ use Rattle.std.proofs.lemmas.Bool.{false≢true}
 use Rattle.std.proofs.Math.Dec.{eqb}
 use borrow.Author.Tests.{lt-ltb, le-ltb, eq-eqb, ne_eqb, eqb-true}
 use Rattle.laws.specs.Bool.{when◌then◌else◌}
-use Rattle.laws.specs.Splice.{splice, splice_all}
+use Rattle.laws.specs.Splice.{splice_all}
 use Rattle.workflow.specs.Layout.{numbers as sheet_length}
 use Rattle.host.specs.Layout as layout
 use Rattle.host.specs.Read.{at, record_fits}
@@ -20,7 +20,7 @@ use Rattle.in_bytes.specs.Sheet.{sheet}
 use Rattle.in_bytes.specs.Run.{run}
 use Rattle.in_bytes.specs.Event.{event, event_fits}
 use Rattle.in_bytes.specs.Answer.{answer}
-use Rattle.in_bytes.specs.Boundary.{bad_bytes, short, bad_form, bad_run, no_item, Outcome, done, refused, packed, returned, left, into, write_sheet, write_run, write_event, ended, whole, taken, read_sheet, read_run, read_event, said, told}
+use Rattle.in_bytes.specs.Boundary.{short, no_item, done, refused, into, write_sheet, write_run, write_event, ended, whole, taken, read_sheet, read_run, read_event, said, told}
 use Rattle.in_bytes.specs.Tests.{ends_at}
 
 -- All the bytes of a value are read back.

@@ -56,14 +56,19 @@ fn read_rest(
     let third = read_numbers(
         bytes,
         second,
-        &mut call[layout::CALL_SEQUENCE..layout::CALL_MAPPINGS],
+        &mut call[layout::CALL_SEQUENCE..layout::CALL_ANSWERED],
+    )?;
+    let fourth = read_numbers(
+        bytes,
+        third,
+        &mut call[layout::CALL_ANSWERED..layout::CALL_MAPPINGS],
     )?;
     let answered = call[layout::CALL_ANSWERED];
     if 2 < answered {
         return None;
     }
     let end = layout::CALL_MAPPINGS + layout::MAPPING_WIDTH * (answered as usize);
-    read_numbers(bytes, third, &mut call[layout::CALL_MAPPINGS..end])
+    read_numbers(bytes, fourth, &mut call[layout::CALL_MAPPINGS..end])
 }
 
 // From bytes into numbers that are all zero.
