@@ -1,6 +1,6 @@
 -- An answer as bytes: both ways; and in two parts, what stands before the run, and the run.
-use Rattle.std.specs.Prelude.{◌≡◌, eqb, leb, length}
-use Rattle.std.proofs.Common.{sym, ◌∙◌, length-append, drop_of_length-le, take-take, take_all, leb-true, leb-false, eq-eqb, ne_eqb}
+use Rattle.std.specs.Prelude.{◌≡◌, eqb, length}
+use Rattle.std.proofs.Common.{sym, ◌∙◌, length-append, drop_of_length-le, eq-eqb, ne_eqb}
 use Rattle.std.proofs.Math.Path.{ap}
 use mathlib.Core.List.{List, [], ◌++◌, append_assoc, append-nil}
 use Prim.Native.Nat.{ℕ, ◌+◌, ◌*◌, ◌-◌, ◌≤◌, min}
@@ -8,7 +8,6 @@ use native.Mathlib.Omega.{arith}
 use Rattle.std.proofs.Math.ListN.{get_or, take, drop, length-take}
 use Rattle.std.proofs.Math.Seq.{take-add, drop-drop, get_or-take}
 use Rattle.laws.specs.Bool.{when◌then◌else◌, split}
-use Rattle.laws.specs.Splice.{splice, splice_more}
 use Rattle.laws.specs.All.{All}
 use Rattle.host.specs.Layout as layout
 use Rattle.codec.specs.Numbers.{bytes_of, part}
@@ -19,6 +18,7 @@ use Rattle.codec.proofs.Loops.{BytesFirst}
 use Rattle.codec.proofs.ColumnsLaws.{bytes_few, StageExact, staged_width, staged_exact}
 use Rattle.in_bytes.specs.Run.{run}
 use Rattle.in_bytes.proofs.RunLaws.{numbers_stage, column_stage, run_width, run_exact}
+use Rattle.in_bytes.proofs.StagesLoops.{take_least}
 use Rattle.in_bytes.specs.Answer.{the_run, next_stages, next, want_stages, want, answer, answer_head}
 
 -- BOTH WAYS. Each stage is exact.
@@ -49,13 +49,7 @@ module _ (kind : ℕ) where
   unfolding answer next want when◌then◌else◌ widths
   answer_width = split (eqb kind 1) (λ h. rw h (staged_width next_stages [] next_stages_exact)) (λ h. rw h (staged_width want_stages [] want_stages_exact))
 
--- ITS FIELDS. The first numbers of the first numbers.
-take_least : (m r k : ℕ) (l : List ℕ) → k ≡ min m r → take m (take r l) ≡ take k l
-take_least m r k l e =
-    split (leb m r)
-    (λ h. let g = leb-true m r h in let q : k ≡ m = omega arith in rw q (take-take m r l g))
-    (λ h. let g = leb-false m r h in let q : k ≡ r = omega arith in let n = length-take r l in rw q (take_all m (take r l) (omega arith)))
-
+-- ITS FIELDS.
 module _ (ns : List ℕ) where
   abbrev notes_end : ℕ
   notes_end = layout.answer_notes + layout.note_width * min (get_or ns layout.answer_noted 0) layout.notes
@@ -90,16 +84,6 @@ module _ (ns : List ℕ) where
   answer_parts : (answer (get_or ns layout.answer_kind 0)).fields ns ≡ answer_head ns ++ from_run
   unfolding answer answer_head when◌then◌else◌
   answer_parts = split (eqb (get_or ns 0 0) 1) (λ h. rw (h, append_assoc) next_parts) (λ h. rw h want_parts)
-
--- BYTES IN TWO PARTS: how many they are; and both parts written.
-module _ {whole xs ys : List ℕ} (parts : BytesFirst whole xs ys) where
-  pub both_sizes : length xs + length ys ≡ length whole
-  both_sizes = rw parts.is (sym (length-append xs ys))
-
-  pub both_written : (l : List ℕ) {l₁ l₂ : List ℕ} {n : ℕ} → length whole ≤ length l → n ≡ length xs → l₁ ≡ splice l 0 xs → l₂ ≡ splice l₁ n ys → l₂ ≡ splice l 0 whole
-  both_written l {l₁} {l₂} {n} room e f g =
-      let s = both_sizes in
-      g ∙ ap (λ (k : List ℕ). splice k n ys) f ∙ rw parts.is (splice_more l 0 xs ys n (omega arith) (omega arith))
 
 -- What stands before the run, by the kind.
 module _ (ns : List ℕ) where

@@ -1,5 +1,5 @@
 -- A call read step by step, with its sheet and without: into the arrays of the sheet, the call and the run.
-use Rattle.std.specs.Prelude.{◌≡◌, Option, Some, None, refl, List, [], ◌∷◌, ◌++◌, ℕ, ◌+◌, ◌-◌, ◌^◌, replicate}
+use Rattle.std.specs.Prelude.{◌≡◌, Option, Some, None, refl, List, [], ◌∷◌, ◌++◌, ℕ, ◌+◌, ◌-◌, ◌^◌, ◌≤◌, replicate}
 use Rattle.std.proofs.Math.Path.{sym, ap}
 use Rattle.std.proofs.Common.{◌∙◌, append_assoc, length-drop, length-take-le}
 use native.Mathlib.Omega.{arith}
@@ -10,7 +10,7 @@ use Rattle.laws.specs.Splice.{splice, splice_all, splice_more}
 use Rattle.workflow.specs.Layout.{numbers as sheet_length}
 use Rattle.host.specs.Layout as layout
 use Rattle.codec.specs.Read.{Read, got, bad}
-use Rattle.codec.specs.Numbers.{numbers_at}
+use Rattle.codec.specs.Numbers.{numbers_at, part}
 use Rattle.codec.specs.Stages.{numbers}
 use Rattle.codec.specs.Stored.{place_of, Stored, ZeroFrom}
 use Rattle.codec.specs.Exact.{Bytes}
@@ -18,6 +18,7 @@ use Rattle.codec.proofs.ExactLaws.{not_bad}
 use Rattle.codec.proofs.NumbersLaws.{numbers_long}
 use Rattle.codec.proofs.StoredLaws.{at_got, at_bad, bad_place, got_place}
 use Rattle.codec.proofs.Zeros.{zero_behind}
+use Rattle.codec.proofs.PartLaws.{put_part, part_place, part_read}
 use Rattle.in_bytes.specs.Sheet.{sheet}
 use Rattle.in_bytes.proofs.SheetLaws.{sheet_exact, sheet_width}
 use Rattle.in_bytes.specs.Call.{rest, limits, the_sheet, the_rest, call, call_on, sheet_in, without_sheet, run_in, numbers_in}
@@ -65,15 +66,6 @@ on_start : (bytes : List ℕ) → Left (limits ∷ the_rest ∷ []) bytes (call_
 unfolding call_on
 on_start bytes = left_start (limits ∷ the_rest ∷ []) bytes 0
 
-module _ (bytes : List ℕ) {z : Option ℕ} (answer : z ≡ place_of (numbers_at (2 ^ 64) layout.call_has_record bytes 0)) where
-  pub limits_bad : z ≡ None → call.read bytes 0 ≡ bad
-  unfolding numbers
-  limits_bad b = left_bad (call_start bytes) (at_bad answer b)
-
-  pub on_bad : z ≡ None → call_on.read bytes 0 ≡ bad
-  unfolding numbers
-  on_bad b = left_bad (on_start bytes) (at_bad answer b)
-
 -- What was read of them, and where it stands.
 pub record Limited (bytes before list : List ℕ) (at : ℕ) : Type 0 where
   pub first : List ℕ
@@ -83,10 +75,26 @@ pub record Limited (bytes before list : List ℕ) (at : ℕ) : Type 0 where
   pub blank : before ≡ replicate layout.call_length 0
   pub good : Bytes bytes
 
-pub limited : {bytes : List ℕ} {z : Option ℕ} {before list : List ℕ} {p : ℕ} → z ≡ place_of (numbers_at (2 ^ 64) layout.call_has_record bytes 0) → z ≡ Some p → Stored (numbers_at (2 ^ 64) layout.call_has_record bytes 0) before 0 list → before ≡ replicate layout.call_length 0 → Bytes bytes → Limited bytes before list p
-limited {bytes} {z} {before} {list} {p} answer e stored blank good =
-    let g = at_got answer e in
-    record { first = g.value; read = g.is; is = stored.is g.value p g.is; many = numbers_long (2 ^ 64) bytes layout.call_has_record 0 g.value p g.is; blank = blank; good = good }
+module _ (bytes before : List ℕ) (blank : before ≡ replicate layout.call_length 0) {z : Option ℕ} (sliced : z ≡ place_of (numbers_at (2 ^ 64) (length (part before 0 layout.call_has_record)) bytes 0)) where
+  room : layout.call_has_record ≤ length before
+  room = let n : length before ≡ layout.call_length = ap length blank ∙ length-replicate {A = ℕ} layout.call_length 0 in omega arith
+
+  answer : z ≡ place_of (numbers_at (2 ^ 64) layout.call_has_record bytes 0)
+  answer = part_place (2 ^ 64) bytes 0 before 0 layout.call_has_record (omega arith) room sliced
+
+  pub limits_bad : z ≡ None → call.read bytes 0 ≡ bad
+  unfolding numbers
+  limits_bad b = left_bad (call_start bytes) (at_bad answer b)
+
+  pub on_bad : z ≡ None → call_on.read bytes 0 ≡ bad
+  unfolding numbers
+  on_bad b = left_bad (on_start bytes) (at_bad answer b)
+
+  pub limited : {ys : List ℕ} {p : ℕ} → z ≡ Some p → Stored (numbers_at (2 ^ 64) (length (part before 0 layout.call_has_record)) bytes 0) (part before 0 layout.call_has_record) 0 ys → Bytes bytes → Limited bytes before (put_part before 0 layout.call_has_record ys) p
+  limited {ys} {p} e stored good =
+      let g = at_got answer e in
+      let s = part_read (2 ^ 64) bytes 0 before 0 layout.call_has_record (omega arith) room stored in
+      record { first = g.value; read = g.is; is = s.is g.value p g.is; many = numbers_long (2 ^ 64) bytes layout.call_has_record 0 g.value p g.is; blank = blank; good = good }
 
 module _ {bytes before list : List ℕ} {at : ℕ} (inv : Limited bytes before list at) where
   before_long : length before ≡ layout.call_length

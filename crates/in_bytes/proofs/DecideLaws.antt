@@ -11,7 +11,7 @@ use Rattle.workflow.specs.Layout.{numbers as sheet_length}
 use Rattle.host.specs.Layout as layout
 use Rattle.host.specs.Write.{decision_numbers}
 use Rattle.host.specs.Host.{receipt, decided, answered, Full}
-use Rattle.codec.specs.Read.{Read, bad}
+use Rattle.codec.specs.Read.{bad}
 use Rattle.codec.specs.Numbers.{part, numbers_at, all_below}
 use Rattle.codec.specs.Stages.{numbers, beside, widths, staged}
 use Rattle.codec.specs.Stored.{place_of, Stored}
@@ -22,7 +22,7 @@ use Rattle.in_bytes.specs.Call.{the_rest, call, call_on, without_sheet, run_in, 
 use Rattle.in_bytes.specs.CallStored.{CallStored, OnStored}
 use Rattle.in_bytes.proofs.StagesLeft.{read_long}
 use Rattle.in_bytes.proofs.CallLaws.{call_exact, call_on_exact}
-use Rattle.in_bytes.specs.Boundary.{bad_bytes, no_item, refused, ended, whole, Decided, said, unread, on_numbers, decide, decide_on, told, call_bytes_on, is_said, said_in, Of64Bits}
+use Rattle.in_bytes.specs.Boundary.{bad_bytes, no_item, refused, whole, Decided, said, unread, on_numbers, decide, decide_on, told, call_bytes_on, is_said, said_in, Of64Bits}
 use Rattle.in_bytes.proofs.BoundaryLaws.{Whole}
 
 -- AN EVENT'S BYTES are read as numbers.
@@ -84,11 +84,6 @@ module _ (sheet call given array : List ℕ) (long : length array ≡ layout.ans
         let o : d ≡ unread = e ∙ if_false _ _ _ (sym same ∙ h) in
         let l : after ≡ array = left ∙ if_false _ _ _ (rw told at h) in
         rw (h, l) (says_unread array o))
-
--- Nothing was read.
-pub ended_bad : (size : ℕ) {read : Read (List ℕ)} → read ≡ bad → ended size read ≡ bad
-unfolding ended
-ended_bad size e = rw e
 
 -- THE LENGTHS of what was read.
 pub call_width : call.width ≡ layout.call_has_record + sheet_length + the_rest.room

@@ -3,7 +3,7 @@ use Rattle.std.specs.Prelude.{◌≡◌, Option, Some, None, Bool, true, false, 
 use Rattle.std.proofs.Math.Path.{refl, sym, ap}
 use Rattle.std.proofs.Common.{◌∙◌}
 use mathlib.Core.List.{List, [], ◌∷◌, ◌++◌, append_assoc}
-use Prim.Native.Nat.{ℕ, zero, suc, ◌+◌, ◌*◌, ◌-◌, ◌^◌, ◌≤◌, ◌<◌}
+use Prim.Native.Nat.{ℕ, ◌+◌, ◌*◌, ◌-◌, ◌^◌, ◌≤◌, ◌<◌}
 use native.Mathlib.Omega.{arith}
 use Rattle.std.proofs.Math.ListN.{length, get_or, take, drop, length-append}
 use Rattle.std.proofs.lemmas.List.{length-replicate}
@@ -15,42 +15,23 @@ use Rattle.host.specs.Layout as layout
 use Rattle.host.specs.Write.{marked}
 use Rattle.codec.specs.Read.{Read, got, bad, onward}
 use Rattle.codec.specs.Leb.{number_at}
-use Rattle.codec.specs.Numbers.{number_below, numbers_at}
+use Rattle.codec.specs.Numbers.{numbers_at, part}
 use Rattle.codec.specs.Stages.{numbers, column, Stage}
 use Rattle.codec.specs.Stored.{place_of, Stored, ZeroFrom}
 use Rattle.codec.specs.Exact.{Bytes}
 use Rattle.codec.proofs.ExactLaws.{not_bad}
-use Rattle.codec.proofs.ReadLaws.{both_read}
 use Rattle.codec.proofs.NumbersLaws.{below_got, below_over, below_bad, below_any, numbers_long}
 use Rattle.codec.proofs.StoredLaws.{at_got, at_bad, bad_place, got_place, got_stored}
-use Rattle.codec.proofs.ShapesLoops.{nothing_yet, getD_splice, behind}
+use Rattle.codec.proofs.ShapesLoops.{getD_splice}
 use Rattle.codec.proofs.ColumnsLaws.{column_read}
 use Rattle.codec.proofs.ColumnsLoops.{column_place, column_long, column_stored}
 use Rattle.codec.proofs.Zeros.{zero_behind}
+use Rattle.codec.proofs.PartLaws.{put_part, part_place, part_read}
 use Rattle.in_bytes.specs.Run.{run}
 use Rattle.in_bytes.specs.Call.{mark, given_shape, given, event_numbers, answered, answers, rest}
 use Rattle.in_bytes.specs.CallStored.{RestStored}
 use Rattle.in_bytes.proofs.CallLaws.{given_exact, given_width}
 use Rattle.in_bytes.proofs.StagesLeft.{read_long, same_read, Left, left_start, left_bad, left_more, left_end}
-
--- NUMBERS in two parts.
-module _ (top : ℕ) (bytes : List ℕ) where
-  one_more : (n k : ℕ) (r : Read (List ℕ)) → onward (onward r (λ xs p. onward (numbers_at top k bytes p) (λ ys q. got (xs ++ ys) q))) (λ ns q. got (n ∷ ns) q) ≡ onward (onward r (λ xs p. got (n ∷ xs) p)) (λ xs p. onward (numbers_at top k bytes p) (λ ys q. got (xs ++ ys) q))
-  unfolding onward
-  one_more n k bad = refl
-  one_more n k (got xs p) = sym (behind (n ∷ []) xs (numbers_at top k bytes p))
-
-  by_first : (j k : ℕ) (r : Read ℕ) → ((p : ℕ) → numbers_at top (j + k) bytes p ≡ onward (numbers_at top j bytes p) (λ xs q. onward (numbers_at top k bytes q) (λ ys t. got (xs ++ ys) t))) → onward r (λ n p. onward (numbers_at top (j + k) bytes p) (λ ns q. got (n ∷ ns) q)) ≡ onward (onward r (λ n p. onward (numbers_at top j bytes p) (λ ns q. got (n ∷ ns) q))) (λ xs p. onward (numbers_at top k bytes p) (λ ys q. got (xs ++ ys) q))
-  unfolding onward
-  by_first j k bad f = refl
-  by_first j k (got n p) f = rw (f p) (one_more n k (numbers_at top j bytes p))
-
-  numbers_two : (j k at : ℕ) → numbers_at top (j + k) bytes at ≡ onward (numbers_at top j bytes at) (λ xs p. onward (numbers_at top k bytes p) (λ ys q. got (xs ++ ys) q))
-  unfolding numbers_at onward
-  numbers_two zero k at = let e : 0 + k ≡ k = omega arith in rw e (sym (nothing_yet (numbers_at top k bytes at)))
-  numbers_two (suc j) k at =
-      let e : suc j + k ≡ suc (j + k) = omega arith in
-      rw e (by_first j k (number_below top bytes at) (numbers_two j k))
 
 -- ONE NUMBER, tested after it was read.
 module _ (bytes : List ℕ) (at : ℕ) where
@@ -93,9 +74,21 @@ module _ (bytes : List ℕ) (at : ℕ) where
   single : {ns : List ℕ} {p : ℕ} → numbers_at (2 ^ 64) 1 bytes at ≡ got ns p → ns ≡ get_or ns 0 0 ∷ []
   single e = (the_number (number_at bytes at) (sym any_number ∙ e)).1
 
+-- What was read at a place of a list is the number that stands there.
+one_read : (bytes : List ℕ) (at : ℕ) {z : Option ℕ} {before after : List ℕ} {place p : ℕ} → place < length before → z ≡ place_of (numbers_at (2 ^ 64) 1 bytes at) → z ≡ Some p → Stored (numbers_at (2 ^ 64) 1 bytes at) before place after → numbers_at (2 ^ 64) 1 bytes at ≡ got (get_or after place 0 ∷ []) p
+one_read bytes at {before = before} {place = place} {p = p} low answer e stored =
+    let g = at_got answer e in
+    let n = numbers_long (2 ^ 64) bytes 1 at g.value p g.is in
+    let i : place + 0 ≡ place = omega arith in
+    let m = rw i at (getD_splice before place g.value 0 (omega arith) (omega arith)) in
+    rw (stored.is g.value p g.is, m, ← single bytes at g.is) g.is
+
 -- THE MARK.
+abbrev count_on : List Stage
+count_on = answered ∷ answers ∷ []
+
 abbrev event_on : List Stage
-event_on = event_numbers ∷ answered ∷ answers ∷ []
+event_on = event_numbers ∷ count_on
 
 abbrev given_on : List Stage
 given_on = given ∷ event_on
@@ -114,28 +107,32 @@ pub record Marked (bytes : List ℕ) (whole : Read (List ℕ)) (before : List �
   pub left : Left given_on bytes whole (get_or call layout.call_has_record 0 ∷ []) at
   pub held : MarkHeld before call
 
-module _ (bytes : List ℕ) (start : ℕ) {z : Option ℕ} (answer : z ≡ place_of (numbers_at (2 ^ 64) 1 bytes start)) where
+module _ (bytes : List ℕ) (start : ℕ) (before : List ℕ) (long : length before ≡ layout.call_length) {z : Option ℕ} (sliced : z ≡ place_of (numbers_at (2 ^ 64) (length (part before layout.call_has_record layout.call_sequence)) bytes start)) where
+  answer : z ≡ place_of (numbers_at (2 ^ 64) 1 bytes start)
+  answer = part_place (2 ^ 64) bytes start before layout.call_has_record layout.call_sequence (omega arith) (omega arith) sliced
+
   pub mark_bad : z ≡ None → rest.read bytes start ≡ bad
   unfolding numbers
   mark_bad b = left_bad (rest_start bytes start) (one_bad bytes start 2 (at_bad answer b))
 
-  module _ {before call : List ℕ} {p : ℕ} (e : z ≡ Some p) (long : length before ≡ layout.call_length) (stored : Stored (numbers_at (2 ^ 64) 1 bytes start) before layout.call_has_record call) where
-    abbrev number : ℕ
-    number = get_or call layout.call_has_record 0
+  module _ {ys : List ℕ} {p : ℕ} (e : z ≡ Some p) (read : Stored (numbers_at (2 ^ 64) (length (part before layout.call_has_record layout.call_sequence)) bytes start) (part before layout.call_has_record layout.call_sequence) 0 ys) where
+    abbrev marked_call : List ℕ
+    marked_call = put_part before layout.call_has_record layout.call_sequence ys
 
-    -- what was read is that number
+    abbrev number : ℕ
+    number = get_or marked_call layout.call_has_record 0
+
+    stored : Stored (numbers_at (2 ^ 64) 1 bytes start) before layout.call_has_record marked_call
+    stored = part_read (2 ^ 64) bytes start before layout.call_has_record layout.call_sequence (omega arith) (omega arith) read
+
     number_read : numbers_at (2 ^ 64) 1 bytes start ≡ got (number ∷ []) p
-    number_read =
-        let g = at_got answer e in
-        let n = numbers_long (2 ^ 64) bytes 1 start g.value p g.is in
-        let m : number ≡ get_or g.value 0 0 = rw (stored.is g.value p g.is) (getD_splice before layout.call_has_record g.value 0 (omega arith) (omega arith)) in
-        rw (m, ← single bytes start g.is) g.is
+    number_read = one_read bytes start (omega arith) answer e stored
 
     pub mark_over : 1 < number → rest.read bytes start ≡ bad
     unfolding numbers
     mark_over h = left_bad (rest_start bytes start) (one_over bytes start 2 number_read (omega arith))
 
-    pub mark_read : number ≤ 1 → ZeroFrom layout.call_has_record before → Marked bytes (rest.read bytes start) before p call
+    pub mark_read : number ≤ 1 → ZeroFrom layout.call_has_record before → Marked bytes (rest.read bytes start) before p marked_call
     unfolding numbers
     mark_read h blank =
         record {
@@ -189,7 +186,53 @@ module _ {bytes : List ℕ} {whole : Read (List ℕ)} {before : List ℕ} {at : 
       let f : run ≡ g.value = (rw same_mark at stored).is g.value p g.is ∙ splice_all blank g.value (omega arith) in
       record { left = rw f (left_more inv.left g.is); held = inv.held; run_long = rw f (omega arith) }
 
--- THE EVENT and the count of answers.
+-- THE EVENT.
+pub record EventRead (bytes : List ℕ) (whole : Read (List ℕ)) (before : List ℕ) (at : ℕ) (call run : List ℕ) : Type 0 where
+  pub mark : ℕ
+  pub event : List ℕ
+  pub left : Left count_on bytes whole (mark ∷ run ++ event) at
+  pub is : call ≡ splice before layout.call_has_record (mark ∷ event)
+  pub many : length event ≡ layout.event_length
+  pub blank : ZeroFrom layout.call_has_record before
+  pub long : length before ≡ layout.call_length
+  pub run_long : length run ≡ layout.record_length
+
+module _ {bytes : List ℕ} {whole : Read (List ℕ)} {before : List ℕ} {at : ℕ} {call run : List ℕ} (inv : Given bytes whole before at call run) {z : Option ℕ} (sliced : z ≡ place_of (numbers_at (2 ^ 64) (length (part call layout.call_sequence layout.call_answered)) bytes at)) where
+  given_long : length call ≡ layout.call_length
+  given_long =
+      let h = inv.held in
+      let n = h.long in
+      rw h.is (length_splice before layout.call_has_record (get_or call layout.call_has_record 0 ∷ []) (omega arith) ∙ n)
+
+  event_told : z ≡ place_of (numbers_at (2 ^ 64) layout.event_length bytes at)
+  event_told = let n = given_long in part_place (2 ^ 64) bytes at call layout.call_sequence layout.call_answered (omega arith) (omega arith) sliced
+
+  pub event_bad : z ≡ None → whole ≡ bad
+  unfolding numbers
+  event_bad b = left_bad inv.left (at_bad event_told b)
+
+  pub event_read : {ys : List ℕ} {p : ℕ} → z ≡ Some p → Stored (numbers_at (2 ^ 64) (length (part call layout.call_sequence layout.call_answered)) bytes at) (part call layout.call_sequence layout.call_answered) 0 ys → EventRead bytes whole before p (put_part call layout.call_sequence layout.call_answered ys) run
+  unfolding numbers
+  event_read {ys} {p} e read =
+      let n = given_long in
+      let held = inv.held in
+      let l = held.long in
+      let g = at_got event_told e in
+      let k = numbers_long (2 ^ 64) bytes layout.event_length at g.value p g.is in
+      let s = part_read (2 ^ 64) bytes at call layout.call_sequence layout.call_answered (omega arith) (omega arith) read in
+      let mark = get_or call layout.call_has_record 0 in
+      record {
+        mark = mark;
+        event = g.value;
+        left = left_more inv.left g.is;
+        is = s.is g.value p g.is ∙ ap (λ (xs : List ℕ). splice xs layout.call_sequence g.value) held.is ∙ splice_more before layout.call_has_record (mark ∷ []) g.value layout.call_sequence (omega arith) (omega arith);
+        many = k;
+        blank = held.blank;
+        long = l;
+        run_long = inv.run_long;
+      }
+
+-- THE COUNT OF ANSWERS.
 pub record Counted (bytes : List ℕ) (whole : Read (List ℕ)) (before : List ℕ) (at : ℕ) (call run : List ℕ) : Type 0 where
   pub mark : ℕ
   pub event : List ℕ
@@ -202,91 +245,58 @@ pub record Counted (bytes : List ℕ) (whole : Read (List ℕ)) (before : List �
   pub long : length before ≡ layout.call_length
   pub run_long : length run ≡ layout.record_length
 
-module _ {bytes : List ℕ} {whole : Read (List ℕ)} {before : List ℕ} {at : ℕ} {call run : List ℕ} (inv : Given bytes whole before at call run) where
-  abbrev both_parts : Read (List ℕ)
-  both_parts = numbers_at (2 ^ 64) (layout.event_length + 1) bytes at
+module _ {bytes : List ℕ} {whole : Read (List ℕ)} {before : List ℕ} {at : ℕ} {call run : List ℕ} (inv : EventRead bytes whole before at call run) {z : Option ℕ} (sliced : z ≡ place_of (numbers_at (2 ^ 64) (length (part call layout.call_answered layout.call_mappings)) bytes at)) where
+  event_long : length call ≡ layout.call_length
+  event_long =
+      let l = inv.long in
+      let m = inv.many in
+      ap length inv.is ∙ length_splice before layout.call_has_record (inv.mark ∷ inv.event) (omega arith) ∙ l
 
-  pub given_long : length call ≡ layout.call_length
-  given_long =
-      let h = inv.held in
-      let n = h.long in
-      rw h.is (length_splice before layout.call_has_record (get_or call layout.call_has_record 0 ∷ []) (omega arith) ∙ n)
+  count_told : z ≡ place_of (numbers_at (2 ^ 64) 1 bytes at)
+  count_told = let n = event_long in part_place (2 ^ 64) bytes at call layout.call_answered layout.call_mappings (omega arith) (omega arith) sliced
 
-  behind_event : (r : Read (List ℕ)) → numbers_at (2 ^ 64) layout.event_length bytes at ≡ r → onward r (λ xs p. onward (numbers_at (2 ^ 64) 1 bytes p) (λ ys q. got (xs ++ ys) q)) ≡ bad → whole ≡ bad
-  unfolding numbers onward
-  behind_event bad f e = left_bad inv.left f
-  behind_event (got xs p) f e = left_bad (left_more inv.left f) (one_bad bytes p 3 (no_count (numbers_at (2 ^ 64) 1 bytes p) e))
-    where
-      no_count : (r : Read (List ℕ)) → onward r (λ ys q. got (xs ++ ys) q) ≡ bad → r ≡ bad
-      no_count bad e = refl
-      no_count (got ys q) e = not_bad (sym e)
+  pub count_bad : z ≡ None → whole ≡ bad
+  unfolding numbers
+  count_bad b = left_bad inv.left (one_bad bytes at 3 (at_bad count_told b))
 
-  module _ {z : Option ℕ} (answer : z ≡ place_of both_parts) where
-    pub event_bad : z ≡ None → whole ≡ bad
-    event_bad b = behind_event (numbers_at (2 ^ 64) layout.event_length bytes at) refl (sym (numbers_two (2 ^ 64) bytes layout.event_length 1 at) ∙ at_bad answer b)
+  module _ {ys : List ℕ} {p : ℕ} (e : z ≡ Some p) (read : Stored (numbers_at (2 ^ 64) (length (part call layout.call_answered layout.call_mappings)) bytes at) (part call layout.call_answered layout.call_mappings) 0 ys) where
+    abbrev after : List ℕ
+    after = put_part call layout.call_answered layout.call_mappings ys
 
-    module _ {after : List ℕ} {p : ℕ} (e : z ≡ Some p) (stored : Stored both_parts call layout.call_sequence after) where
-      abbrev count_of : ℕ
-      count_of = get_or after layout.call_answered 0
+    abbrev count_of : ℕ
+    count_of = get_or after layout.call_answered 0
 
-      -- the event's numbers and the count
-      record TwoParts : Type 0 where
-        xs : List ℕ
-        place : ℕ
-        first : numbers_at (2 ^ 64) layout.event_length bytes at ≡ got xs place
-        second : numbers_at (2 ^ 64) 1 bytes place ≡ got (count_of ∷ []) p
-        is : after ≡ splice call layout.call_sequence (xs ++ (count_of ∷ []))
-        long : length xs ≡ layout.event_length
+    count_stored : Stored (numbers_at (2 ^ 64) 1 bytes at) call layout.call_answered after
+    count_stored = let n = event_long in part_read (2 ^ 64) bytes at call layout.call_answered layout.call_mappings (omega arith) (omega arith) read
 
-      two_parts : TwoParts
-      two_parts =
-          let g = at_got answer e in
-          let a = both_read (numbers_at (2 ^ 64) layout.event_length bytes at) _ (sym (numbers_two (2 ^ 64) bytes layout.event_length 1 at) ∙ g.is) in
-          let b = both_read (numbers_at (2 ^ 64) 1 bytes a.place) _ a.two in
-          let t = b.two in
-          let x : a.value ++ b.value ≡ g.value = cc in
-          let y : b.place ≡ p = cc in
-          let n = numbers_long (2 ^ 64) bytes layout.event_length at a.value a.place a.one in
-          let m = numbers_long (2 ^ 64) bytes 1 a.place b.value b.place b.one in
-          let l = given_long in
-          let s : after ≡ splice call layout.call_sequence (a.value ++ b.value) = stored.is g.value p g.is ∙ ap (splice call layout.call_sequence) (sym x) in
-          let k = length-append a.value b.value in
-          let i : layout.event_length ≡ length a.value + 0 = omega arith in
-          let c : count_of ≡ get_or b.value 0 0 =
-          ap (λ (l : List ℕ). get_or l layout.call_answered 0) s ∙ (getD_splice call layout.call_sequence (a.value ++ b.value) layout.event_length (omega arith) (omega arith) ∙ ap (λ j. get_or (a.value ++ b.value) j 0) i ∙ get_or-append-add a.value b.value 0 0) in
-          let v : b.value ≡ count_of ∷ [] = single bytes a.place b.one ∙ ap (λ (n : ℕ). n ∷ []) (sym c) in
-          record { xs = a.value; place = a.place; first = a.one; second = rw (v, y) at b.one; is = s ∙ ap (λ (l : List ℕ). splice call layout.call_sequence (a.value ++ l)) v; long = n }
+    count_got : numbers_at (2 ^ 64) 1 bytes at ≡ got (count_of ∷ []) p
+    count_got = let n = event_long in one_read bytes at (omega arith) count_told e count_stored
 
-      pub count_over : layout.mappings < count_of → whole ≡ bad
-      unfolding numbers
-      count_over h =
-          let t = two_parts in
-          left_bad (left_more inv.left t.first) (one_over bytes t.place 3 t.second (omega arith))
+    pub count_over : layout.mappings < count_of → whole ≡ bad
+    unfolding numbers
+    count_over h = left_bad inv.left (one_over bytes at 3 count_got (omega arith))
 
-      pub count_read : count_of ≤ layout.mappings → Counted bytes whole before p after run
-      unfolding numbers
-      count_read h =
-          let t = two_parts in
-          let mark = get_or call layout.call_has_record 0 in
-          let event = t.xs ++ (count_of ∷ []) in
-          let held = inv.held in
-          let l = held.long in
-          let n = t.long in
-          let k : length event ≡ layout.event_length + 1 = length-append t.xs (count_of ∷ []) ∙ omega arith in
-          let o = inv.run_long in
-          let i : 1 + layout.record_length + layout.event_length ≡ length (mark ∷ run) + (length t.xs + 0) = omega arith in
-          record {
-            mark = mark;
-            event = event;
-            left = rw append_assoc at (left_more (left_more inv.left t.first) (one_below bytes t.place 3 t.second (omega arith)));
-            is = t.is ∙ ap (λ (xs : List ℕ). splice xs layout.call_sequence event) held.is ∙ splice_more before layout.call_has_record (mark ∷ []) event layout.call_sequence (omega arith) (omega arith);
-            many = k;
-            count = ap (λ j. get_or (mark ∷ run ++ event) j 0) i ∙ get_or-append-add (mark ∷ run) event (length t.xs + 0) 0 ∙ get_or-append-add t.xs (count_of ∷ []) 0 0;
-            few = h;
-            blank = held.blank;
-            long = l;
-            run_long = o;
-          }
+    pub count_read : count_of ≤ layout.mappings → Counted bytes whole before p after run
+    unfolding numbers
+    count_read h =
+        let mark = inv.mark in
+        let event = inv.event ++ (count_of ∷ []) in
+        let l = inv.long in
+        let n = inv.many in
+        let o = inv.run_long in
+        let i : 1 + layout.record_length + layout.event_length ≡ length (mark ∷ run) + (length inv.event + 0) = omega arith in
+        record {
+          mark = mark;
+          event = event;
+          left = rw append_assoc at (left_more inv.left (one_below bytes at 3 count_got (omega arith)));
+          is = count_stored.is (count_of ∷ []) p count_got ∙ ap (λ (xs : List ℕ). splice xs layout.call_answered (count_of ∷ [])) inv.is ∙ splice_more before layout.call_has_record (mark ∷ inv.event) (count_of ∷ []) layout.call_answered (omega arith) (omega arith);
+          many = length-append inv.event (count_of ∷ []) ∙ omega arith;
+          count = ap (λ j. get_or (mark ∷ run ++ event) j 0) i ∙ get_or-append-add (mark ∷ run) event (length inv.event + 0) 0 ∙ get_or-append-add inv.event (count_of ∷ []) 0 0;
+          few = h;
+          blank = inv.blank;
+          long = l;
+          run_long = o;
+        }
 
 -- THE ANSWERS, and so all of it.
 pub bad_rest : {r : Read (List ℕ)} {before after given : List ℕ} → r ≡ bad → RestStored r before after given
@@ -345,9 +355,14 @@ module _ {bytes : List ℕ} {whole : Read (List ℕ)} {before : List ℕ} {at : 
         stored.is ns p e ∙ ap (λ (xs : List ℕ). splice xs layout.call_mappings ns) inv.is ∙ splice_more before layout.call_has_record (inv.mark ∷ inv.event) ns layout.call_mappings (sym i) (omega arith) in
         (a ∙ got_place all, got_rest all (c ∙ ap (λ (xs : List ℕ). splice before layout.call_has_record (inv.mark ∷ xs)) (sym d)) (sym t))
 
-  pub answers_read : {z : Option ℕ} {after : List ℕ} {end : ℕ} → end ≡ layout.call_mappings + layout.mapping_width * get_or call layout.call_answered 0 → z ≡ place_of (numbers_at (2 ^ 64) (end - layout.call_mappings) bytes at) → Stored (numbers_at (2 ^ 64) (end - layout.call_mappings) bytes at) call layout.call_mappings after → (z ≡ place_of whole) × RestStored whole before after run
-  answers_read {z} {after} {end} ends answer stored =
-      let c = inv.count in
-      let many : end - layout.call_mappings ≡ used = omega arith in
+  answers_by : {z : Option ℕ} {after : List ℕ} {n : ℕ} → n ≡ used → z ≡ place_of (numbers_at (2 ^ 64) n bytes at) → Stored (numbers_at (2 ^ 64) n bytes at) call layout.call_mappings after → (z ≡ place_of whole) × RestStored whole before after run
+  answers_by many answer stored =
       let n = counted_long in
       by_answers (column_stored (2 ^ 64) room used bytes at used_few (omega arith) none_yet (rw many at stored)) ((column (2 ^ 64) room used).read bytes at) refl (column_place (2 ^ 64) room used bytes at used_few (rw many at answer))
+
+  pub answers_read : {z : Option ℕ} {ys : List ℕ} {end : ℕ} → end ≡ layout.call_mappings + layout.mapping_width * get_or call layout.call_answered 0 → z ≡ place_of (numbers_at (2 ^ 64) (length (part call layout.call_mappings end)) bytes at) → Stored (numbers_at (2 ^ 64) (length (part call layout.call_mappings end)) bytes at) (part call layout.call_mappings end) 0 ys → (z ≡ place_of whole) × RestStored whole before (put_part call layout.call_mappings end ys) run
+  answers_read {end = end} ends sliced read =
+      let c = inv.count in
+      let f = inv.few in
+      let n = counted_long in
+      answers_by (omega arith) (part_place (2 ^ 64) bytes at call layout.call_mappings end (omega arith) (omega arith) sliced) (part_read (2 ^ 64) bytes at call layout.call_mappings end (omega arith) (omega arith) read)

@@ -20,12 +20,11 @@ use Rattle.host.proofs.Cases.{both_of}
 use Rattle.in_bytes.specs.Run.{stored_signals, run}
 use Rattle.in_bytes.specs.Tests.{unused}
 use Rattle.in_bytes.proofs.RunLaws.{parts_neat}
-use Rattle.codec.proofs.NumbersLoops.{part_all}
 
 module _ (xs : List ℕ) (long : length xs ≡ layout.record_length) (tidy : run.tidy xs ≡ true) where
   -- THE SIGNALS, by their count.
   signals_neat : (stored_signals.shape (part xs 0 layout.record_signals)).tidy (part xs layout.record_signals layout.record_visits) ≡ true
-  signals_neat = let n = sym (parts_neat xs 0 (omega arith)) ∙ ap run.tidy (part_all xs layout.record_length long) ∙ tidy in (both _ _ (both _ _ n).1).0
+  signals_neat = let n = sym (parts_neat xs long) ∙ tidy in (both _ _ (both _ _ n).1).0
 
   pub signals_past : SignalsPast xs (at xs layout.record_stored)
   signals_past =
@@ -44,11 +43,11 @@ module _ (xs : List ℕ) (long : length xs ≡ layout.record_length) (tidy : run
 
   -- THE NODES. A streak and a result whose lead is 0.
   streaks_neat : (slots (2 ^ 64) 1 0 layout.nodes).tidy (part xs layout.record_streaks layout.record_results) ≡ true
-  streaks_neat = let n = sym (parts_neat xs 0 (omega arith)) ∙ ap run.tidy (part_all xs layout.record_length long) ∙ tidy in (both _ _ (both _ _ (both _ _ (both _ _ n).1).1).1).0
+  streaks_neat = let n = sym (parts_neat xs long) ∙ tidy in (both _ _ (both _ _ (both _ _ (both _ _ n).1).1).1).0
 
   results_neat : (slots (2 ^ 64) 2 3 layout.nodes).tidy (part xs layout.record_results layout.record_length) ≡ true
   results_neat =
-      let n = sym (parts_neat xs 0 (omega arith)) ∙ ap run.tidy (part_all xs layout.record_length long) ∙ tidy in
+      let n = sym (parts_neat xs long) ∙ tidy in
       (both _ _ (both _ _ (both _ _ (both _ _ (both _ _ n).1).1).1).1).0
 
   -- Slots in the record, from a place on.

@@ -13,6 +13,7 @@ use host::layout;
 fn rows(count: u64, capacity: usize) -> usize
     ensures { result ≡ min count capacity }
 {
+    // Kept: casts, since there is no `From` between u64 and usize (d).
     count.min(capacity as u64) as usize
 }
 

@@ -7,7 +7,7 @@ use host::layout;
 // Where the event's numbers begin in a call.
 const FIRST: usize = layout::CALL_SEQUENCE;
 
-// Kept: crate host has these four bounds too, and shows none of them.
+// Kept: crate host has these four bounds too, and shows none of them; `u32::try_from(n).is_ok()` in their place says the same at more length (d).
 const NUMBER: u64 = 0x1_0000_0000;
 
 const NAME: u64 = 256;

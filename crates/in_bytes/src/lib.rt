@@ -16,7 +16,7 @@ ghost use Rattle.in_bytes.specs.Boundary.{no_item, packed, returned, left, write
 ghost use Rattle.in_bytes.specs.Tests.{ends_at};
 
 use crate::answer::{answer_size, write_answer};
-use crate::call::{read_call, read_rest};
+use crate::call::{read_call, read_call_on};
 use crate::event::event_fits;
 use crate::run::{read_run, run_size, run_tidy, tidy_fits, write_run};
 use crate::sheet::{read_sheet, sheet_size, sheet_tidy, write_sheet};
@@ -27,6 +27,7 @@ use workflow::layout::NUMBERS;
 use workflow::refusal::Refusal;
 
 // The item of a refusal that names none.
+// Kept: numbers, here and below, since what is returned is one (a).
 const NO_ITEM: u64 = 255;
 
 const HALF: u64 = 0x1_0000_0000;
@@ -47,6 +48,7 @@ fn refused(refusal: Refusal) -> u64
 fn done(size: usize) -> u64
     ensures { result ≡ packed 0 size }
 {
+    // Kept: a cast, since there is no `From` between usize and u64 (d).
     packed(0, size as u64)
 }
 
@@ -65,6 +67,7 @@ fn ends(place: Option<usize>, bytes: &[u8]) -> bool
 }
 
 // Kept: the exported functions take slices and return a number, and the answers' arrays are lent: the C interface, and fixed memory (a).
+// Kept: three that write and three that read, where they are alike too: each has tests of its own, and one of all three would need a trait of six methods (d).
 
 // A SHEET.
 
@@ -186,6 +189,7 @@ pub fn kuxhoveza_read_event(bytes: &[u8], event: &mut [u64]) -> u64
 // A CALL.
 
 // The answer's numbers; false where the bytes are bad.
+// Kept: the array is lent, and says nothing where false is returned; && before a call that writes to it would hide that (a, d).
 pub fn decide(bytes: &[u8], answer: &mut [u64; layout::ANSWER]) -> bool
     ensures value { result ≡ is_said (decide bytes.now) }
     ensures answer_after { answer.new ≡ said_in (decide bytes.now) answer.old }
@@ -241,11 +245,7 @@ fn decide_on(sheet: &[u32; NUMBERS], bytes: &[u8], answer: &mut [u64; layout::AN
 {
     let mut call = [0u64; layout::CALL];
     let mut run = [0u64; layout::RECORD];
-    let limits = read_numbers(bytes, 0, &mut call[..layout::CALL_HAS_RECORD]);
-    let Some(next) = limits else {
-        return false;
-    };
-    let place = read_rest(bytes, next, &mut call, &mut run);
+    let place = read_call_on(bytes, &mut call, &mut run);
     if !ends(place, bytes) {
         return false;
     }

@@ -25,6 +25,7 @@ const RESULT: Slot = Slot {
     after: 3,
 };
 
+// Kept: casts here and below, since there is no `From` between u64 and usize (d).
 const CAPACITY: u64 = layout::STORE as u64;
 
 // Where the stored signals end. No more of them stand in a record than there is room for, whatever the count says.
@@ -73,10 +74,8 @@ pub fn run_tidy(r: &[u64; layout::RECORD]) -> bool
     ensures { result ≡ run.tidy r.now }
 {
     let stored = r[layout::RECORD_STORED];
-    if CAPACITY < stored {
-        return false;
-    }
-    numbers_zero(&r[stored_end(stored)..layout::RECORD_VISITS])
+    (stored <= CAPACITY)
+        & numbers_zero(&r[stored_end(stored)..layout::RECORD_VISITS])
         & slots_tidy(&r[layout::RECORD_STREAKS..], STREAK, layout::NODES)
         & slots_tidy(&r[layout::RECORD_RESULTS..], RESULT, layout::NODES)
 }
@@ -130,6 +129,7 @@ pub fn run_size(r: &[u64; layout::RECORD]) -> usize
 }
 
 // Its bytes are written from a place on. The place behind them.
+// Kept: the buffer and a place, since an answer's other numbers stand before the run: the place comes back, and the contract is of the whole buffer (d).
 pub fn write_run(out: &mut [u8], place: usize, r: &[u64; layout::RECORD]) -> usize
     requires { place + length (bytes_of (run.fields r.now)) ≤ length out.old }
     ensures value { result ≡ place + length (bytes_of (run.fields r.now)) }

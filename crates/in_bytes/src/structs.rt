@@ -8,6 +8,8 @@ use host::write::{event_numbers, record_numbers};
 use model::State;
 use model::event::Event;
 
+// Kept: functions, since an impl stands in its type's own crate, and both types are crate model's; and two of them, since a trait for two lines would be no plainer (d).
+
 pub fn write_state(state: State, out: &mut [u8]) -> u64
     ensures value { result ≡ returned (of_state state (length out.old)) }
     ensures out_after { out.new ≡ left (of_state state (length out.old)) out.old }

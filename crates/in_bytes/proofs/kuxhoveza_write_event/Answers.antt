@@ -1,43 +1,42 @@
-use mathlib.Core.Path.{sym, ◌∙◌}
+use mathlib.Core.Path.{refl, sym, ◌∙◌}
 use native.Mathlib.Omega.{arith}
+use lib.ListN.{length}
+use borrow.Author.Tests.{eq-eqb, ne_eqb}
+use Rattle.laws.specs.Bool.{when◌then◌else◌}
+use Rattle.host.specs.Layout.{event_length}
 use Rattle.codec.specs.Numbers.{bytes_of}
-use Rattle.in_bytes.proofs.BoundaryLaws.{refused_by, done_by, into_short, into_done, event_other, event_unfit, event_into}
+use Rattle.in_bytes.specs.Boundary.{returned, left, write_event}
+use Rattle.in_bytes.proofs.BoundaryLaws.{into_short, into_done, event_into}
 use Rattle.in_bytes.proofs.kuxhoveza_write_event.Goals as goal
 
 pub returns-in_default : goal.returns-in_default
-returns-in_default c =
-    let a = c.args in
-    let o = refused_by a.out.now (event_other a.event.now _ c.in_default.ensures.1) in
-    record { value = c.receipt.ensures ∙ o.0; out_after = o.1 }
+unfolding write_event returned left when◌then◌else◌
+returns-in_default c = rw (ne_eqb (length c.args.event.now) event_length c.in_default.ensures.1) (record { value = c.receipt.ensures; out_after = refl })
 
 pub returns-then-not-event_fits : goal.returns-then-not-event_fits
+unfolding write_event returned left when◌then◌else◌
 returns-then-not-event_fits c =
-    let a = c.args in
     let k = c.in-Ok.ensures.1 in
     let f = rw k.same at c.event_fits.ensures in
-    let o = refused_by a.out.now (event_unfit a.event.now _ k.long (sym f ∙ c.if-not-event_fits.true)) in
-    record { value = c.receipt-then-not-event_fits.ensures ∙ o.0; out_after = o.1 }
+    rw (eq-eqb (length c.args.event.now) event_length k.long, sym f ∙ c.if-not-event_fits.true) (record { value = c.receipt-then-not-event_fits.ensures; out_after = refl })
 
 pub returns-then-out-size : goal.returns-then-out-size
+unfolding returned left
 returns-then-out-size c =
-    let a = c.args in
+    let ns = c.args.event.now in
+    let room = length c.args.out.now in
     let k = c.in-Ok.ensures.1 in
     let f = rw k.same at c.event_fits.ensures in
-    let i = event_into a.event.now _ k.long (sym f ∙ c.if-not-event_fits.false) in
-    let o = refused_by a.out.now (i ∙ into_short _ (bytes_of a.event.now) (rw k.same at c.numbers_size-size.ensures) c.if-out-size.true) in
-    record { value = c.refused.ensures ∙ o.0; out_after = o.1 }
+    rw (event_into ns room k.long (sym f ∙ c.if-not-event_fits.false), into_short room (bytes_of ns) (rw k.same at c.numbers_size-size.ensures) c.if-out-size.true) (record { value = c.refused.ensures; out_after = refl })
 
 pub write_numbers-requires : goal.write_numbers-requires
-write_numbers-requires c =
-    let s = c.numbers_size-size.ensures in
-    let l = c.if-out-size.false in
-    omega arith
+write_numbers-requires c = omega (arith, c.numbers_size-size.ensures, c.if-out-size.false)
 
 pub returns : goal.returns
+unfolding returned left
 returns c =
-    let a = c.args in
+    let ns = c.args.event.now in
+    let room = length c.args.out.now in
     let k = c.in-Ok.ensures.1 in
     let f = rw k.same at c.event_fits.ensures in
-    let i = event_into a.event.now _ k.long (sym f ∙ c.if-not-event_fits.false) in
-    let o = done_by a.out.now (i ∙ into_done _ (bytes_of a.event.now) (rw k.same at c.numbers_size-size.ensures) c.if-out-size.false) in
-    record { value = c.done.ensures ∙ o.0; out_after = (rw k.same at c.write_numbers.ensures.out_after) ∙ o.1 }
+    rw (event_into ns room k.long (sym f ∙ c.if-not-event_fits.false), into_done room (bytes_of ns) (rw k.same at c.numbers_size-size.ensures) c.if-out-size.false) (record { value = c.done.ensures; out_after = rw k.same at c.write_numbers.ensures.out_after })

@@ -1,7 +1,8 @@
 use native.Mathlib.Omega.{arith}
 use Rattle.host.specs.Layout.{answer_record}
 use Rattle.in_bytes.proofs.RunLaws.{run_few}
-use Rattle.in_bytes.proofs.AnswerLaws.{both_sizes, head_few, answer_bytes}
+use Rattle.in_bytes.proofs.StagesLoops.{both_sizes}
+use Rattle.in_bytes.proofs.AnswerLaws.{head_few, answer_bytes}
 use Rattle.in_bytes.proofs.answer.answer_size.Goals as goal
 
 pub overflow_add-result : goal.overflow_add-result

@@ -1,6 +1,7 @@
 use native.Mathlib.Omega.{arith}
 use Rattle.codec.specs.Numbers.{part}
-use Rattle.in_bytes.proofs.AnswerLaws.{both_sizes, next_head, want_head, head_few}
+use Rattle.in_bytes.proofs.StagesLoops.{both_sizes}
+use Rattle.in_bytes.proofs.AnswerLaws.{next_head, want_head, head_few}
 use Rattle.in_bytes.proofs.answer.head_size.Goals as goal
 
 pub overflow_add-result : goal.overflow_add-result

@@ -1,5 +1,6 @@
 use native.Mathlib.Omega.{arith}
-use Rattle.in_bytes.proofs.AnswerLaws.{both_sizes, both_written, head_within, answer_bytes}
+use Rattle.in_bytes.proofs.StagesLoops.{both_sizes, both_written}
+use Rattle.in_bytes.proofs.AnswerLaws.{head_within, answer_bytes}
 use Rattle.in_bytes.proofs.answer.write_answer.Goals as goal
 
 pub write_head-place-requires : goal.write_head-place-requires

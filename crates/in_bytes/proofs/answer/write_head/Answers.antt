@@ -1,7 +1,8 @@
 use native.Mathlib.Omega.{arith}
 use mathlib.Core.Path.{refl}
 use Rattle.codec.specs.Numbers.{part}
-use Rattle.in_bytes.proofs.AnswerLaws.{both_sizes, both_written, next_head, want_head}
+use Rattle.in_bytes.proofs.StagesLoops.{both_sizes, both_written}
+use Rattle.in_bytes.proofs.AnswerLaws.{next_head, want_head}
 use Rattle.in_bytes.proofs.answer.write_head.Goals as goal
 
 pub write_numbers-place-requires : goal.write_numbers-place-requires
