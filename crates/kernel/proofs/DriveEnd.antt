@@ -3,8 +3,7 @@ use Rattle.std.specs.Prelude.{◌≡◌, Option, None, true, ltb}
 use Rattle.std.proofs.Math.Path.{refl, ap}
 use Rattle.std.proofs.Common.{◌∙◌, eqb-true}
 use Rattle.std.proofs.lemmas.Bool.{false≢true}
-use mathlib.Core.List.{List}
-use Prim.Native.Nat.{ℕ, ◌+◌, ◌-◌, ◌≤◌}
+use Prim.Native.Nat.{ℕ, ◌-◌}
 use native.Mathlib.Omega.{arith}
 use Rattle.laws.specs.Bool.{when◌then◌else◌, split}
 use Rattle.laws.specs.Settle.{settled, settle_next}

@@ -1,7 +1,7 @@
 -- The driver's loop: at each turn the machine of the definition is the record, the lists in their arrays and the counts of the code.
 use Rattle.std.specs.Option.{is_some}
 use mir.Val.{bool_byte}
-use Rattle.std.specs.Prelude.{◌≡◌, Option, Some, None, Bool, true, false, ltb, eqb, take, set, get_or, replicate}
+use Rattle.std.specs.Prelude.{◌≡◌, Option, Some, None, Bool, true, false, ltb, eqb, take, get_or}
 use Rattle.std.proofs.Math.Path.{refl, sym, ap, subst}
 use Rattle.std.proofs.Common.{◌∙◌, eqb-true, lt-ltb, le-ltb, ltb-true, ltb-false}
 use Rattle.std.proofs.lemmas.Bool.{false≢true, eqb-false}
@@ -9,7 +9,7 @@ use mathlib.Core.List.{List, [], ◌∷◌, ◌++◌}
 use mathlib.Core.Logic.{◌⊎◌, inl, inr}
 use Prim.Native.Nat.{ℕ, zero, suc, ◌+◌, ◌-◌, ◌*◌, ◌≤◌, ◌<◌}
 use native.Mathlib.Omega.{arith}
-use Rattle.std.proofs.Math.ListN.{length, length-append}
+use Rattle.std.proofs.Math.ListN.{length}
 use Rattle.laws.specs.Bool.{when◌then◌else◌, if_true, if_false, split, either}
 use Rattle.laws.specs.Settle.{settle, Settling, settle_rests, settled, settle_next}
 use Rattle.laws.specs.First.{first}
@@ -33,9 +33,7 @@ use Rattle.model.specs.declared.moves.Next.TheVariants.{Rest, Enter, Take, Consu
 use Rattle.model.specs.declared.moves.Move.{Move}
 use Rattle.workflow.specs.Code.{none}
 use Rattle.workflow.specs.declared.refusal.Refusal.{Refusal}
-use Rattle.model.specs.Code.{store}
 use Rattle.model.specs.Store.{listed as stored_as, stored, first_signal, signal_at, removed, leaves_over, left_over, emptied}
-use Rattle.model.specs.StoreLaws.{IsSlotted, stored_length, length_left}
 use Rattle.model.specs.Step.{still, no_mapping, arrival, enter, follow_to, route_limited, route, take_by, take as take_signal}
 use Rattle.model.specs.EnterLaws.{NoNode, entering}
 use Rattle.model.specs.RouteLaws.{consumed, taking}

@@ -1,5 +1,4 @@
 use Rattle.std.proofs.Common.{rules}
-use mathlib.Core.Logic.{inl, inr}
 use Rattle.std.proofs.lemmas.Bool.{false≢true}
 use mathlib.Core.Path.{◌≡◌, ◌∙◌, sym}
 use Rattle.model.specs.declared.moves.Next.TheVariants.{Consume}

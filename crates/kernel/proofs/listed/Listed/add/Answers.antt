@@ -1,5 +1,4 @@
 use Rattle.std.proofs.Common.{rules, ◌≡◌, sym, ◌∙◌}
-use native.Mathlib.Omega.{arith}
 use lib.ListN.{length}
 use Rattle.laws.specs.Arrays.{length_field}
 use Rattle.kernel.specs.ListedLaws.{added_none, added_some, said_room}
