@@ -1,31 +1,31 @@
 -- A list of calls of the code is the list of the definition, so demand 3 speaks of the code.
-use Rattle.std.specs.Prelude.{◌≡◌, refl, Some, None, List, [], ◌∷◌, ◌++◌, map, length}
-use Rattle.std.proofs.Common.{sym, ap, subst, ◌∙◌}
+use Rattle.std.specs.List.{filter_map}
+use Rattle.std.specs.Prelude.{◌≡◌, refl, List, [], ◌∷◌, ◌++◌, map, length, Some, None}
+use Rattle.std.proofs.Common.{sym, ap, subst}
 use Rattle.std.proofs.lemmas.List.{length-map}
 use Rattle.laws.specs.Listing.{take_padded}
 use Rattle.workflow.specs.View.{Workflow}
 use Rattle.kernel.specs.declared.Call.{Call}
 use Rattle.kernel.specs.Call.{Answer, next, wants, refused, transition}
 use Rattle.kernel.specs.Code.{list_room}
-use Rattle.kernel.specs.Listed.{listed, somes, list_of}
+use Rattle.kernel.specs.Listed.{listed}
 use Rattle.kernel.specs.Decision.{decision_of}
 use Rattle.demand3.specs.Demand3.{Entry, next_entry, history, Demand3}
 use Rattle.demand3.proofs.Holds.{holds}
-use Rattle.demand3.specs.Calls.{Made, read, entry, Ran, calls}
+use Rattle.demand3.specs.Calls.{Made, rows_of, read, entry, Ran, calls}
 
--- A list is read back from its rows.
-somes_map : {A : Type 0} (xs : List A) → somes (map Some xs) ≡ xs
-unfolding somes
-somes_map [] = refl
-somes_map (x ∷ xs) = ap (λ (zs : List _). x ∷ zs) (somes_map xs)
+-- The rows of a list are the list.
+all_rows : {A : Type 0} (xs : List A) → filter_map (λ row. row) (map Some xs) ≡ xs
+all_rows [] = refl
+all_rows (x ∷ xs) = ap (λ (zs : List _). x ∷ zs) (all_rows xs)
 
-list_back : {A : Type 0} (xs : List A) → list_of (listed xs) ≡ xs
-unfolding list_of listed
-list_back xs = ap somes (take_padded None list_room (length xs) (map Some xs) (length-map xs Some)) ∙ somes_map xs
+rows_back : {A : Type 0} (xs : List A) → rows_of (listed xs) ≡ xs
+unfolding listed
+rows_back xs = rw (take_padded None list_room (length xs) (map Some xs) (length-map xs Some)) (all_rows xs)
 
 read_back : (a : Answer) → read (decision_of a) ≡ a
 unfolding decision_of
-read_back (next a) = rw (list_back a.notes, list_back a.endings)
+read_back (next a) = rw (rows_back a.notes, rows_back a.endings)
 read_back (wants n i b s) = refl
 read_back (refused k i) = refl
 

@@ -1,11 +1,12 @@
 -- A list of calls of the code, read as a list of the definition.
-use Rattle.std.specs.Prelude.{◌≡◌, List, [], ◌∷◌, ◌++◌, map}
+use Rattle.std.specs.List.{filter_map}
+use Rattle.std.specs.Prelude.{◌≡◌, List, [], ◌∷◌, ◌++◌, map, take}
 use Rattle.workflow.specs.View.{Workflow}
 use Rattle.model.specs.declared.answer.Answer as code
+use Rattle.kernel.specs.declared.listed.Listed.{Listed}
 use Rattle.kernel.specs.declared.Decision.{Decision}
 use Rattle.kernel.specs.declared.Call.{Call}
 use Rattle.kernel.specs.Call.{Answer, next, wants, refused, Last, transition}
-use Rattle.kernel.specs.Listed.{list_of}
 use Rattle.kernel.specs.Decision.{decision_of}
 use Rattle.demand3.specs.Demand3.{Entry, standing}
 
@@ -15,10 +16,14 @@ pub record Made : Type 0 where
   pub call : Call
   pub returned : Decision
 
+-- A list that was returned: its rows, as many as are counted.
+abbrev pub rows_of : {A : Type 0} → Listed A → List A
+rows_of l = filter_map (λ row. row) (take l.count l.rows)
+
 -- What was returned, read as an answer.
 abbrev read_by : code.Answer → Decision → Answer
 read_by (code.Answer.Next o k) d =
-    next (record { state = d.state; order = o; notes = list_of d.notes; endings = list_of d.endings; microsteps = k })
+    next (record { state = d.state; order = o; notes = rows_of d.notes; endings = rows_of d.endings; microsteps = k })
 read_by (code.Answer.Wants n i b) d = wants n i b d.state
 read_by (code.Answer.Refused k i) d = refused k i
 

@@ -188,12 +188,7 @@ fn close(
 }
 
 // What an answer hands back: a want has no notes and no endings, a refusal no record besides; an accepted one is closed where signals are left over.
-fn decide(
-    notes: Listed<Note>,
-    endings: Listed<Ending>,
-    answer: Answer,
-    state: State,
-) -> Decision
+fn decide(notes: Listed<Note>, endings: Listed<Ending>, answer: Answer, state: State) -> Decision
     requires signal_count_bound { endings.count + state.signal_count ≤ 65 }
     requires signal_count_bound_2 { state.signal_count ≤ 64 }
     ensures { (ns : List Note) → (es : List Ending) → notes ≡ listed ns → endings ≡ listed es → result ≡ decide ns es state answer }

@@ -90,9 +90,6 @@ pub fn transition(w: &[u32; NUMBERS], given: Option<State>, c: Call) -> Decision
     if let Err(broken) = admit(w, &given, &c) {
         return drive::refusal(broken.refusal, broken.item);
     }
-    let s = match given {
-        Some(s) => s,
-        None => State::fresh(c.event.input),
-    };
+    let s = given.unwrap_or_else(|| State::fresh(c.event.input));
     drive::drive(w, s, c.limits, c.event, c.mappings)
 }

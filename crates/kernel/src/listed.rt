@@ -55,6 +55,7 @@ impl<T: Copy> Listed<T> {
         let from = self.count as usize;
         let rows = &mut self.rows[..];
         rows[from..from + more.len()].copy_from_slice(more);
+        // Kept: a length is usize, and u32 has no From for it (d).
         self.count += more.len() as u32;
     }
 }

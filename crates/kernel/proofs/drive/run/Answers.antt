@@ -1,26 +1,14 @@
 use native.Mathlib.Omega.{arith}
 use mathlib.Core.Path.{sym, ◌∙◌}
-use Rattle.kernel.specs.DriveLaws.{driving_first, note_room, ending_room, counted, driving_next, left_less, few_left}
+use Rattle.kernel.specs.DriveLaws.{note_room, ending_room, counted, driving_next, left_less, few_left}
 use Rattle.kernel.proofs.DriveEnd.{driving_ends}
 use Rattle.kernel.proofs.drive.run.Goals as goal
-
-pub loop-microsteps-init : goal.loop-microsteps-init
-loop-microsteps-init c = driving_first _ _ _ _ _ c.none-notes.ensures c.none-endings.ensures c.requires
-
-pub overflow_add-microsteps : goal.overflow_add-microsteps
-overflow_add-microsteps c = omega (arith, c.loop-microsteps.invariant.steps)
-
-pub returns-then-limits-microsteps : goal.returns-then-limits-microsteps
-returns-then-limits-microsteps c = c.refusal.ensures ∙ c.loop-microsteps.invariant.over c.if-limits-microsteps.true
 
 pub add-requires : goal.add-requires
 add-requires c = (omega arith, note_room _ _ _ _ _ c.loop-microsteps.invariant c.if-limits-microsteps.false)
 
 pub add-requires-in-loop-microsteps : goal.add-requires-in-loop-microsteps
 add-requires-in-loop-microsteps c = (omega arith, ending_room _ _ _ _ _ c.loop-microsteps.invariant c.if-limits-microsteps.false)
-
-pub overflow_add-operations : goal.overflow_add-operations
-overflow_add-operations c = omega (arith, c.operations_of-operations.ensures.upper_bound, c.loop-microsteps.invariant.few)
 
 pub decide-requires-clause-signal_count_bound : goal.decide-requires-clause-signal_count_bound
 decide-requires-clause-signal_count_bound c =
