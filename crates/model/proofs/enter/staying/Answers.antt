@@ -1,7 +1,0 @@
-use mathlib.Core.Path.{refl}
-use Rattle.model.specs.EnterLaws.{made}
-use Rattle.model.proofs.enter.staying.Goals as goal
-
-pub returns : goal.returns
-unfolding made
-returns c = record { result_value = λ s. refl; entered_value = refl }
