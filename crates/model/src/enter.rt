@@ -9,7 +9,9 @@ use crate::answer::{Field, Order, ScheduleActivity};
 use crate::event::{Mappings, NoValue};
 use crate::moves::{Move, Next, still};
 use crate::time::planned;
-use crate::{ErrorCode, ErrorInfo, InvocationState, Output, Position, RunResult, State, Visits, code};
+use crate::{
+    ErrorCode, ErrorInfo, InvocationState, Output, Position, RunResult, State, Visits, code,
+};
 use workflow::code as sheet;
 use workflow::layout::{NODES, NUMBERS};
 use workflow::refusal::Refusal;
