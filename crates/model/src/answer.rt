@@ -43,23 +43,51 @@ pub enum Reason {
 #[derive(Clone, Copy, Debug, PartialEq, Eq)]
 pub enum Noted {
     // 1: an event of that kind, since the run has ended
-    Ignored { kind: u32 },
+    Ignored {
+        kind: u32,
+    },
     // 2: a result that names that node, visit and attempt
-    Stale { node: u32, visit: u32, attempt: u32 },
+    Stale {
+        node: u32,
+        visit: u32,
+        attempt: u32,
+    },
     // 3: a resolution that names that node and visit
-    NotApplicable { node: u32, visit: u32, reason: Reason },
+    NotApplicable {
+        node: u32,
+        visit: u32,
+        reason: Reason,
+    },
     // 4: one signal too many
-    Overflow { event_id: u32 },
+    Overflow {
+        event_id: u32,
+    },
     // 5: a signal whose outcome isn't routed
-    Unrouted { event_id: u32, outcome: u32 },
+    Unrouted {
+        event_id: u32,
+        outcome: u32,
+    },
     // 6: an invocation that a result with that status parks
-    Unknown { visit: u32, attempt: u32, status: u32 },
+    Unknown {
+        visit: u32,
+        attempt: u32,
+        status: u32,
+    },
     // 7: an invocation that failed with that error
-    Stuck { visit: u32, attempt: u32, code: u32 },
+    Stuck {
+        visit: u32,
+        attempt: u32,
+        code: u32,
+    },
     // 8: the next attempt
-    Retry { attempt: u32 },
+    Retry {
+        attempt: u32,
+    },
     // 9: a loop at its limit
-    Exhausted { outcome: u32, limit: u32 },
+    Exhausted {
+        outcome: u32,
+        limit: u32,
+    },
 }
 
 // A note, at a node or at none.
@@ -201,18 +229,18 @@ impl Note {
                 node,
                 visit,
                 attempt,
-            } => [
-                2,
-                at,
-                u64::from(node),
-                u64::from(visit),
-                u64::from(attempt),
-            ],
+            } => [2, at, u64::from(node), u64::from(visit), u64::from(attempt)],
             Noted::NotApplicable {
                 node,
                 visit,
                 reason,
-            } => [3, at, u64::from(node), u64::from(visit), u64::from(reason.number())],
+            } => [
+                3,
+                at,
+                u64::from(node),
+                u64::from(visit),
+                u64::from(reason.number()),
+            ],
             Noted::Overflow { event_id } => [4, at, u64::from(event_id), 0, 0],
             Noted::Unrouted { event_id, outcome } => {
                 [5, at, u64::from(event_id), u64::from(outcome), 0]
@@ -232,13 +260,7 @@ impl Note {
                 visit,
                 attempt,
                 code,
-            } => [
-                7,
-                at,
-                u64::from(visit),
-                u64::from(attempt),
-                u64::from(code),
-            ],
+            } => [7, at, u64::from(visit), u64::from(attempt), u64::from(code)],
             Noted::Retry { attempt } => [8, at, u64::from(attempt), 0, 0],
             Noted::Exhausted { outcome, limit } => {
                 [9, at, u64::from(outcome), u64::from(limit), 0]

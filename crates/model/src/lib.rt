@@ -12,7 +12,7 @@ pub mod store;
 mod time;
 
 ghost use Rattle.std.specs.Prelude.{◌≡◌};
-ghost use Rattle.model.specs.Record.{no_position, no_invocation, no_signal, no_streak, visits_of, streak_of, fresh, finished, is_terminal};
+ghost use Rattle.model.specs.Record.{no_position, no_invocation, no_signal, no_visits, no_streak, no_node_result, visits_of, streak_of, fresh, finished, is_terminal};
 ghost use Rattle.model.specs.Code.{error_code};
 ghost use Rattle.model.specs.Answers.{output_numbers, kept_numbers};
 ghost use Rattle.model.specs.Store.{signal_zero};
@@ -187,8 +187,28 @@ impl InvocationState {
     }
 }
 
+impl Visits {
+    pub fn none() -> Visits
+        ensures { result ≡ no_visits }
+    {
+        Visits { count: 0 }
+    }
+}
+
+impl NodeResult {
+    pub fn none() -> NodeResult
+        ensures { result ≡ no_node_result }
+    {
+        NodeResult {
+            visit: 0,
+            outcome: 0,
+            output: Output::Nothing,
+        }
+    }
+}
+
 impl Streak {
-    fn none() -> Streak
+    pub fn none() -> Streak
         ensures { result ≡ no_streak }
     {
         Streak {
@@ -229,13 +249,9 @@ impl State {
     {
         State {
             signals: [BufferedSignal::none(); code::STORE],
-            visits: [Visits { count: 0 }; NODES],
+            visits: [Visits::none(); NODES],
             streaks: [Streak::none(); NODES],
-            results: [NodeResult {
-                visit: 0,
-                outcome: 0,
-                output: Output::Nothing,
-            }; NODES],
+            results: [NodeResult::none(); NODES],
             last_sequence: 0,
             last_accepted_at: 0,
             signal_count: 0,
@@ -255,7 +271,7 @@ impl State {
         ensures { result ≡ visits_of self.now node }
     {
         let slot = self.visits.get(node as usize);
-        slot.copied().unwrap_or(Visits { count: 0 })
+        slot.copied().unwrap_or(Visits::none())
     }
 
     // The streak of a node: none where it has no slot.

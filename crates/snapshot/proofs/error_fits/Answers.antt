@@ -1,5 +1,5 @@
 use mathlib.Core.Path.{◌∙◌}
-use Rattle.snapshot.specs.CheckLaws.{keeps, alike}
+use Rattle.snapshot.proofs.Tests.{keeps, alike}
 use Rattle.snapshot.proofs.error_fits.Goals as goal
 
 pub returns : goal.returns

@@ -1,0 +1,2 @@
+-- the code's tests and the definition's
+pub mod Tests
