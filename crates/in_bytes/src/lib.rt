@@ -189,7 +189,8 @@ pub fn kuxhoveza_read_event(bytes: &[u8], event: &mut [u64]) -> u64
 // A CALL.
 
 // The answer's numbers; false where the bytes are bad.
-// Kept: the array is lent, and says nothing where false is returned; && before a call that writes to it would hide that (a, d).
+// Kept: a bool, and the lent array beside it, since memory is fixed (a); `return false`, since && before a call that writes would hide that it does (d).
+// Kept: `decide_on` is as this but for what is read, and what both could share has no definition of its own (d).
 pub fn decide(bytes: &[u8], answer: &mut [u64; layout::ANSWER]) -> bool
     ensures value { result ≡ is_said (decide bytes.now) }
     ensures answer_after { answer.new ≡ said_in (decide bytes.now) answer.old }
