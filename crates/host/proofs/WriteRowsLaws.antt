@@ -61,7 +61,6 @@ pub result_zeros : result_numbers no_node_result ≡ zeros layout.result_width
 unfolding result_numbers output_numbers
 result_zeros = refl
 
-
 -- Digits joined over a list are 0 only if each row's are.
 module _ {A : Type 0} (digits : A → ℕ) where
   abbrev joined : ℕ → List A → ℕ

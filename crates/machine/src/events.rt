@@ -149,7 +149,11 @@ impl<'a> Machine<'a> {
         if self.may_retry() {
             return Reaction::Retry(self.delay_of(self.action()));
         }
-        self.fail_invocation(ErrorCode::AttemptsExhausted.number(), self.event.status, true)
+        self.fail_invocation(
+            ErrorCode::AttemptsExhausted.number(),
+            self.event.status,
+            true,
+        )
     }
 
     // A result that doesn't apply is stale.
