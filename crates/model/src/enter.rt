@@ -292,10 +292,10 @@ impl State {
     pub fn enter(mut self, w: &[u32; NUMBERS], next: Next, mappings: Mappings) -> Move
         ensures { result ≡ entering (workflow w.now) self next mappings }
     {
-        let Next::Enter { node, from } = next else {
-            return still(self, next);
+        let entry = match next {
+            Next::Enter { node, from } => self.entry(w, node, from, &mappings),
+            _ => Entry::staying(next),
         };
-        let entry = self.entry(w, node, from, &mappings);
         self.settle(entry.standing);
         Move {
             state: self,
