@@ -73,12 +73,15 @@ abbrev pub stored_by : State → (node : ℕ) → Option Stored → State
 stored_by s n (Some x) = with_streak (with_result s n x.result) n x.streak
 stored_by s n None = s
 
+abbrev pub said : State → Routed → Move
+said s r = record { state = s; next = r.next; note = r.note; ending = r.ending; order = None; read = 0 }
+
 abbrev pub made : State → Routed → Move
-made s r = record { state = stored_by s s.position.node r.stored; next = r.next; note = r.note; ending = r.ending; order = None; read = 0 }
+made s r = said (stored_by s s.position.node r.stored) r
 
 -- Where something is stored, the node has its slot.
-abbrev pub HasSlot : State → Routed → Type 0
-HasSlot s r = (x : Stored) → r.stored ≡ Some x → s.position.node < 64
+abbrev pub HasSlot : State → Option Stored → Type 0
+HasSlot s o = (x : Stored) → o ≡ Some x → s.position.node < 64
 
 abbrev pub unstored : Next → Option Note → Option Ending → Routed
 unstored n t e = record { stored = None; next = n; note = t; ending = e }

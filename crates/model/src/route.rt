@@ -7,7 +7,7 @@ ghost use Rattle.workflow.specs.View.{workflow};
 ghost use Rattle.workflow.specs.Code.{exhausted};
 ghost use Rattle.workflow.specs.Lookup.{is_0_2};
 ghost use Rattle.model.specs.Step.{streak_count, signal_outcome, signal_route, route, take};
-ghost use Rattle.model.specs.RouteLaws.{routing_of, next_of, unstored, HasSlot, made, taking};
+ghost use Rattle.model.specs.RouteLaws.{routing_of, next_of, unstored, HasSlot, stored_by, said, made, taking};
 
 use crate::answer::{Ended, Ending, Note, Noted};
 use crate::moves::{Move, Next};
@@ -137,10 +137,25 @@ fn unstored(next: Next, note: Option<Note>, ending: Option<Ending>) -> Routed
     }
 }
 
+// What routing says, with the record in which it is stored.
+// Kept: `store` beside it changes the record in place; one method that takes the record and does both copies it once more for each signal (b).
+fn said(state: State, routed: Routed) -> Move
+    ensures { result ≡ said state routed }
+{
+    Move {
+        state,
+        next: routed.next,
+        note: routed.note,
+        ending: routed.ending,
+        order: None,
+        read: 0,
+    }
+}
+
 impl State {
     // The node where the run stands routes: the result goes with the reported outcome.
     fn routed_from(&self, w: &[u32; NUMBERS], outcome: u32, output: Output) -> Routed
-        ensures slot { HasSlot self.now result }
+        ensures slot { HasSlot self.now result.stored }
         ensures move_is { made self.now result ≡ route (workflow w.now) self.now outcome output }
     {
         let node = self.position.node;
@@ -167,7 +182,7 @@ impl State {
 
     // A signal is taken where the run waits: it routes and ends there. Without a routed outcome it ends there too, and the run goes on waiting.
     fn taken(&self, w: &[u32; NUMBERS], signal: BufferedSignal, missed: Next) -> Routed
-        ensures slot { HasSlot self.now result }
+        ensures slot { HasSlot self.now result.stored }
         ensures move_is { made self.now result ≡ take (workflow w.now) self.now signal missed }
     {
         let node = self.position.node;
@@ -196,32 +211,25 @@ impl State {
         }
     }
 
-    // What routing makes of the run is stored and said.
-    fn made(mut self, routed: Routed) -> Move
-        requires { HasSlot self routed }
-        ensures { result ≡ made self routed }
+    // What routing stores at the node where the run stands, if something.
+    fn store(&mut self, stored: Option<Stored>)
+        requires { HasSlot self.old stored }
+        ensures { self.new ≡ stored_by self.old self.old.position.node stored }
     {
-        if let Some(stored) = routed.stored {
+        if let Some(kept) = stored {
             let n = self.position.node as usize;
-            self.results[n] = stored.result;
-            self.streaks[n] = stored.streak;
-        }
-        Move {
-            state: self,
-            next: routed.next,
-            note: routed.note,
-            ending: routed.ending,
-            order: None,
-            read: 0,
+            self.results[n] = kept.result;
+            self.streaks[n] = kept.streak;
         }
     }
 
     // Routing stores the result with the reported outcome, then the streak, and follows the route.
-    pub fn route(self, w: &[u32; NUMBERS], outcome: u32, output: Output) -> Move
+    pub fn route(mut self, w: &[u32; NUMBERS], outcome: u32, output: Output) -> Move
         ensures { result ≡ route (workflow w.now) self outcome output }
     {
         let routed = self.routed_from(w, outcome, output);
-        self.made(routed)
+        self.store(routed.stored);
+        said(self, routed)
     }
 
     // A signal is taken where one is to be: the one that arrived, or the oldest stored one of the name that the node waits for. Else nothing is.
@@ -239,6 +247,7 @@ impl State {
             }
             _ => unstored(next, None, None),
         };
-        self.made(routed)
+        self.store(routed.stored);
+        said(self, routed)
     }
 }
