@@ -15,6 +15,7 @@ pub struct Listed<T> {
     pub count: u32,
 }
 
+// Kept: by hand, since the proof of a derived clone of an array of options didn't close (c).
 impl<T: Copy> Clone for Listed<T> {
     ghost is_clone = { λ x y. y ≡ x };
 

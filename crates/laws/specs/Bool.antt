@@ -1,6 +1,7 @@
 -- Tests and cases.
 use Rattle.std.specs.Prelude.{◌≡◌, refl, Bool, true, false, not, ◌&&◌, ◌||◌}
 use Rattle.std.proofs.Common.{sym, ◌∙◌}
+use borrow.Author.Tests.{le-ltb, lt-ltb, le-leb, lt-leb, eq-eqb, ne_eqb}
 use Rattle.std.proofs.lemmas.Bool.{false≢true, not-true, not-false}
 
 infix 20 when◌then◌else◌
@@ -85,6 +86,9 @@ pub if_false : {A : Type 0} (b : Bool) (x y : A) → b ≡ false → (when b the
 unfolding when◌then◌else◌
 if_false true x y e = absurd (false≢true (sym e))
 if_false false x y e = refl
+
+-- What the code's tests of numbers come to, and the branches that they take.
+pub ruleset deciding = (if_true, if_false, le-ltb, lt-ltb, le-leb, lt-leb, eq-eqb, ne_eqb, strict_and)
 
 -- What holds of both sides, by the value of the test.
 pub either : {A : Type 0} (P : A → Type 0) (b : Bool) {x y : A} → (b ≡ true → P x) → (b ≡ false → P y) → P (when b then x else y)

@@ -1,7 +1,5 @@
 -- Entering a node: what an entry makes of a record.
 use Rattle.std.specs.Prelude.{◌≡◌, None, Result, Ok, Err, ℕ}
-use borrow.Author.Tests.{le-ltb, lt-ltb, le-leb, lt-leb, eq-eqb, ne_eqb}
-use Rattle.laws.specs.Bool.{if_true, if_false}
 use Rattle.workflow.specs.View.{Workflow, workflow}
 use Rattle.model.specs.Code.{run_failed}
 use Rattle.model.specs.declared.Output.{Output}
@@ -16,9 +14,6 @@ use Rattle.model.specs.declared.moves.Next.TheVariants.{Rest, Enter, Take, Consu
 use Rattle.model.specs.declared.moves.Move.{Move}
 use Rattle.model.specs.Record.{placed, finished}
 use Rattle.model.specs.Step.{still, error, enter}
-
--- What a test of numbers comes to, and the branch that it takes.
-pub ruleset deciding = (if_true, if_false, le-ltb, lt-ltb, le-leb, lt-leb, eq-eqb, ne_eqb)
 
 -- THE ENTRIES, as the code makes them.
 abbrev pub staying : Next → Entry

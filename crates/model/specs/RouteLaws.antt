@@ -3,9 +3,8 @@ use Rattle.std.specs.Prelude.{◌≡◌, Option, Some, None, Bool}
 use Rattle.std.proofs.Math.Path.{refl}
 use Rattle.std.proofs.Math.Bool.{true, false}
 use Prim.Native.Nat.{ℕ, ◌+◌, ◌<◌}
-use borrow.Author.Tests.{lt-ltb, le-ltb, le-leb, lt-leb, eq-eqb, ne_eqb}
 use Rattle.std.proofs.Math.Dec.{leb}
-use Rattle.laws.specs.Bool.{when◌then◌else◌, if_true, if_false, strict_and}
+use Rattle.laws.specs.Bool.{when◌then◌else◌}
 use Rattle.workflow.specs.Code.{exhausted}
 use Rattle.model.specs.Code.{running}
 use Rattle.workflow.specs.View.{Workflow}
@@ -27,9 +26,6 @@ use Rattle.model.specs.declared.moves.Move.{Move}
 use Rattle.model.specs.Record.{placed, no_streak, streak_of, with_streak, with_result}
 use Rattle.model.specs.Store.{first_signal, signal_at, removed}
 use Rattle.model.specs.Step.{streak_count, still, noting, follow_to, route_limited, take}
-
--- The tests, as the code makes them.
-pub ruleset deciding = (if_true, if_false, le-ltb, lt-ltb, le-leb, lt-leb, eq-eqb, ne_eqb, strict_and)
 
 -- The outcome that is followed, the next streak and the note.
 abbrev pub exhausts : (node outcome limit : ℕ) → Routing

@@ -21,9 +21,7 @@ use Rattle.model.specs.declared.event.NoValue.{NoValue}
 use Rattle.model.specs.declared.event.NoValue.TheVariants.{Fault, Unencodable, Lacking}
 use Rattle.model.specs.declared.answer.Order.{Order}
 use Rattle.model.specs.declared.answer.Noted.{Noted}
-use Rattle.model.specs.declared.answer.Note.{Note}
 use Rattle.model.specs.declared.answer.Ended.{Ended}
-use Rattle.model.specs.declared.answer.Ending.{Ending}
 use Rattle.model.specs.declared.answer.Field.{Field}
 use Rattle.model.specs.declared.moves.Next.{Next}
 use Rattle.model.specs.declared.moves.Next.TheVariants.{Rest, Enter, Consume, Wants, Refuse}

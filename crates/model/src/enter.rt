@@ -1,5 +1,5 @@
 // The moves that enter a node and order an activity's first attempt.
-#![tactic(auto, using(crate::specs::EnterLaws::deciding), unfolding(crate::specs::Step::answer, crate::specs::Step::terminate, crate::specs::Step::without_value, crate::specs::Step::evaluate, crate::specs::Step::schedule, crate::specs::Step::enter_activity, crate::specs::Step::enter_await, crate::specs::Step::enter_complete, crate::specs::Step::arrive, crate::specs::Step::enter, crate::specs::EnterLaws::entering))]
+#![tactic(auto, using(laws::specs::Bool::deciding), unfolding(crate::specs::Step::answer, crate::specs::Step::terminate, crate::specs::Step::without_value, crate::specs::Step::evaluate, crate::specs::Step::schedule, crate::specs::Step::enter_activity, crate::specs::Step::enter_await, crate::specs::Step::enter_complete, crate::specs::Step::arrive, crate::specs::Step::enter, crate::specs::EnterLaws::entering))]
 
 ghost use Rattle.std.specs.Prelude.{◌≡◌, ℕ, ◌+◌, ◌<◌};
 ghost use Rattle.workflow.specs.View.{workflow};

@@ -1,5 +1,5 @@
 // The move that orders the next attempt of an invocation.
-#![tactic(auto, using(crate::specs::RouteLaws::deciding), unfolding(crate::specs::Step::retry))]
+#![tactic(auto, using(laws::specs::Bool::deciding), unfolding(crate::specs::Step::retry))]
 
 ghost use Rattle.std.specs.Prelude.{◌≡◌, ltb};
 ghost use Rattle.workflow.specs.View.{workflow};

@@ -1,5 +1,5 @@
 // The moves that route a node's outcome and take a signal.
-#![tactic(auto, using(crate::specs::RouteLaws::deciding, crate::specs::RouteLaws::route_along), unfolding(crate::specs::RouteLaws::routing_of, crate::specs::RouteLaws::next_of, crate::specs::Step::route, crate::specs::Step::take_by, crate::specs::RouteLaws::taking, crate::specs::RouteLaws::consumed, crate::specs::StoreLaws::found_at, crate::specs::StoreLaws::left_at))]
+#![tactic(auto, using(laws::specs::Bool::deciding, crate::specs::RouteLaws::route_along), unfolding(crate::specs::RouteLaws::routing_of, crate::specs::RouteLaws::next_of, crate::specs::Step::route, crate::specs::Step::take_by, crate::specs::RouteLaws::taking, crate::specs::RouteLaws::consumed, crate::specs::StoreLaws::found_at, crate::specs::StoreLaws::left_at))]
 
 ghost use Rattle.std.specs.Prelude.{◌≡◌, eqb};
 ghost use Rattle.laws.specs.Bool.{◌and◌};

@@ -1,5 +1,5 @@
 -- What a call writes is tidy as the numbers of an answer: notes and endings are zero past their counts, and the record is tidy.
-use Rattle.std.specs.Prelude.{◌≡◌, Option, Some, None, map, true, ℕ, ◌+◌, ◌*◌, ◌-◌, ◌^◌, eqb, get_or, drop, replicate}
+use Rattle.std.specs.Prelude.{◌≡◌, Option, Some, None, map, true, ℕ, ◌+◌, ◌*◌, ◌-◌, ◌^◌, ◌≤◌, eqb, get_or, drop, replicate}
 use Rattle.std.proofs.Math.Path.{refl}
 use Rattle.std.proofs.Common.{◌∙◌, arith, length-append, get_or-append-add, drop_at, eq-eqb}
 use mathlib.Core.List.{List, [], ◌∷◌, ◌++◌, flat_map, append_assoc, append-nil}
@@ -18,6 +18,7 @@ use Rattle.model.specs.declared.answer.Field.{Field}
 use Rattle.model.specs.declared.answer.Answer as code
 use Rattle.model.specs.Answers.{field_number, answer_numbers}
 use Rattle.kernel.specs.Call.{Accepted, next, wants}
+use Rattle.kernel.specs.Listed.{listed}
 use Rattle.kernel.specs.Decision.{decision_of}
 use Rattle.demand3.specs.Tidy.{Tidies}
 use Rattle.demand3.specs.Single.{Proper}
@@ -93,7 +94,7 @@ module _ (a : Accepted) where
   from_notes = notes ++ from_endings
 
   laid : decision_numbers (decision_of (next a)) ≡ front ++ from_notes
-  unfolding decision_numbers decision_of state_numbers
+  unfolding decision_numbers decision_of listed state_numbers
   laid = simp (append_assoc, append-nil)
 
   front_long : length front ≡ layout.answer_notes
@@ -185,7 +186,7 @@ between_tidy = join _ _ (eq-eqb _ _ between_long) (join _ _ refl (join _ _ refl 
 
 module _ (f : Workflow) (node : ℕ) (field : Field) (from : ℕ) (s : State) (fits : Tidies f s) (below : all_below (2 ^ 64) (decision_numbers (decision_of (wants node field from s))) ≡ true) where
   want_laid : decision_numbers (decision_of (wants node field from s)) ≡ (2 ∷ node ∷ field_number field ∷ from ∷ []) ++ (between ++ (record_numbers s ++ []))
-  unfolding decision_numbers decision_of state_numbers answer_numbers
+  unfolding decision_numbers decision_of listed state_numbers answer_numbers
   want_laid = simp (append_assoc, append-nil)
 
   want_below : (all_below (2 ^ 64) (2 ∷ node ∷ field_number field ∷ from ∷ []) ≡ true) × (all_below (2 ^ 64) (between ++ (record_numbers s ++ [])) ≡ true)
