@@ -262,7 +262,7 @@ module _ (f : Workflow) (its : Sheet f) where
       name : Name n
       name = omega (arith, inside)
 
-      good_evaluate : (a : Result ℕ NoValue) (s : State) (i b r : ℕ) (k : ℕ → Move) → EvaluatedFits a → Fits s → ((x : ℕ) → Number x → Good (k x)) → Good (evaluate f a s n i b r k)
+      good_evaluate : (a : Result ℕ NoValue) (s : State) (i : Field) (b r : ℕ) (k : ℕ → Move) → EvaluatedFits a → Fits s → ((x : ℕ) → Number x → Good (k x)) → Good (evaluate f a s n i b r k)
       unfolding evaluate without_value
       good_evaluate (Ok x) s i b r k a t h = h x a
       good_evaluate (Err (Fault c d)) s i b r k a t h = good_terminate s (error c n d) (record { code = a.0; node = name; detail = a.1 }) t
