@@ -1,5 +1,6 @@
 -- Between the rules of the events and their code: what an event makes of a run is a value first, and is done to the record then.
 use Rattle.std.specs.Prelude.{◌≡◌, Option, Some, None}
+use Rattle.std.proofs.Math.Bool.{and_assoc}
 use Rattle.workflow.specs.View.{Workflow, workflow}
 use Rattle.model.specs.Code.{needs_intervention}
 use Rattle.model.specs.declared.State.{State}
@@ -9,12 +10,16 @@ use Rattle.model.specs.declared.answer.Ending.{Ending}
 use Rattle.model.specs.declared.moves.Next.TheVariants.{Rest}
 use Rattle.model.specs.declared.moves.Move.{Move}
 use Rattle.model.specs.Record.{placed}
+use Rattle.model.specs.RouteLaws.{deciding}
 use Rattle.model.specs.Store.{appended}
 use Rattle.model.specs.Step.{still, phased, arrival, terminate, retry}
 use Rattle.machine.specs.declared.events.Machine.{Machine}
 use Rattle.machine.specs.declared.reaction.Reaction.{Reaction}
 use Rattle.machine.specs.declared.reaction.Reaction.TheVariants.{Pass, Store, Say, Route, Retry, Park, Fail}
 use Rattle.machine.specs.Events.{complete_invocation}
+
+-- What a test comes to, of several numbers too, and the branch that it takes.
+pub ruleset choosing = (deciding, and_assoc)
 
 -- A record with a note and an ending, and nothing next.
 abbrev told : State → Note → Option Ending → Move

@@ -1,14 +1,18 @@
 // The events: what each makes of a run.
+#![tactic(auto, using(crate::specs::ReactionLaws::choosing), unfolding(crate::specs::ReactionLaws::performed, crate::specs::Events::not_applicable, crate::specs::Events::on_ended, crate::specs::Events::on_signal, crate::specs::Events::on_success, crate::specs::Events::on_failure, crate::specs::Events::on_unknown, crate::specs::Events::on_result, crate::specs::Events::resolve_as_complete, crate::specs::Events::resolve_as_fail, crate::specs::Events::on_resolved, crate::specs::Events::react))]
+
 ghost use Rattle.std.specs.Prelude.{◌≡◌, not, eqb};
 ghost use Rattle.workflow.specs.View.{workflow};
-ghost use Rattle.workflow.specs.Lookup.{policy_of};
+ghost use Rattle.laws.specs.Bool.{◌and◌};
+ghost use Rattle.workflow.specs.Lookup.{node_of, policy_of};
 ghost use Rattle.workflow.specs.Code.{repeatable};
+ghost use Rattle.model.specs.Code.{waiting};
 ghost use Rattle.model.specs.Step.{arrival};
 ghost use Rattle.machine.specs.Events.{success_outcome, action_at, may_retry, delay_of, not_applicable, on_ended, on_signal, on_success, on_failure, on_unknown, on_result, resolve_as_complete, resolve_as_fail, on_resolved, react};
 ghost use Rattle.machine.specs.ReactionLaws.{Reacts};
 
 use crate::reaction::Reaction;
-use model::answer::{Ended, Ending, Note, Noted, Reason};
+use model::answer::{Ended, Noted, Reason};
 use model::event::Event;
 use model::moves::Next;
 use model::{BufferedSignal, ErrorCode, Output, State, code};
@@ -49,6 +53,7 @@ pub fn arrival(event: Event) -> BufferedSignal
 
 impl<'a> Machine<'a> {
     // The action of the activity where the run stands.
+    // Kept: this and `is_routed` ask the sheet of the run's node different things, and only look alike (d).
     fn action(&self) -> u32
         ensures { result ≡ action_at (workflow self.now.sheet.now) self.now.state.now }
     {
@@ -78,27 +83,33 @@ impl<'a> Machine<'a> {
         policy.effect != sheet::REPEATABLE
     }
 
+    // After a failure a retry also needs retryable.
+    fn may_retry_failure(&self) -> bool
+        ensures { result ≡ (self.now.event.now.retryable and may_retry (workflow self.now.sheet.now) self.now.state.now self.now.event.now) }
+    {
+        self.event.retryable && self.may_retry()
+    }
+
+    // The run waits for the signal that arrived.
+    fn is_awaited(&self) -> bool
+        ensures { result ≡ (eqb self.now.state.now.status waiting and eqb (node_of (workflow self.now.sheet.now) self.now.state.now.position.node).signal self.now.event.now.signal) }
+    {
+        let row = workflow::node_of(self.sheet, self.state.position.node);
+        self.state.status == code::WAITING && row.signal == self.event.signal
+    }
+
     // An arrival that the run waits for is taken ahead of the store. Otherwise it is stored last; one too many is dropped.
     pub fn on_signal(&self) -> Reaction
         ensures { Reacts self.now result on_signal }
     {
-        let row = workflow::node_of(self.sheet, self.state.position.node);
-        if self.state.status == code::WAITING && row.signal == self.event.signal {
+        if self.is_awaited() {
             return Reaction::Pass(Next::Take);
         }
         if State::STORE <= self.state.signal_count {
-            return Reaction::Say {
-                note: Note {
-                    node: sheet::NONE,
-                    noted: Noted::Overflow {
-                        event_id: self.event.event_id,
-                    },
-                },
-                ending: Some(Ending {
-                    sequence: self.event.sequence,
-                    ending: Ended::Overflow,
-                }),
+            let noted = Noted::Overflow {
+                event_id: self.event.event_id,
             };
+            return Reaction::ended(self.event.sequence, Ended::Overflow, noted);
         }
         Reaction::Store
     }
@@ -119,7 +130,7 @@ impl<'a> Machine<'a> {
     fn on_failure(&self) -> Reaction
         ensures { Reacts self.now result on_failure }
     {
-        if self.event.retryable && self.may_retry() {
+        if self.may_retry_failure() {
             return Reaction::Retry(self.delay_of(self.action()));
         }
         if self.event.has_error {
@@ -133,18 +144,12 @@ impl<'a> Machine<'a> {
         ensures { Reacts self.now result on_unknown }
     {
         if self.needs_person() {
-            return Reaction::Park {
-                phase: code::UNKNOWN,
-                error: None,
-                note: Note {
-                    node: self.state.position.node,
-                    noted: Noted::Unknown {
-                        visit: self.state.invocation.visit,
-                        attempt: self.state.invocation.attempt,
-                        status: self.event.status,
-                    },
-                },
+            let noted = Noted::Unknown {
+                visit: self.state.invocation.visit,
+                attempt: self.state.invocation.attempt,
+                status: self.event.status,
             };
+            return Reaction::parked(self.state.position.node, code::UNKNOWN, None, noted);
         }
         if self.may_retry() {
             return Reaction::Retry(self.delay_of(self.action()));
@@ -161,42 +166,30 @@ impl<'a> Machine<'a> {
         ensures { Reacts self.now result on_result }
     {
         if !self.applies() {
-            return Reaction::Say {
-                note: Note {
-                    node: self.named_node(),
-                    noted: Noted::Stale {
-                        node: self.event.node,
-                        visit: self.event.visit,
-                        attempt: self.event.attempt,
-                    },
-                },
-                ending: None,
+            let noted = Noted::Stale {
+                node: self.event.node,
+                visit: self.event.visit,
+                attempt: self.event.attempt,
             };
+            return Reaction::noted(self.named_node(), noted);
         }
-        if self.event.status == code::SUCCESS {
-            return self.on_success();
+        match self.event.status {
+            code::SUCCESS => self.on_success(),
+            code::FAILURE => self.on_failure(),
+            _ => self.on_unknown(),
         }
-        if self.event.status == code::FAILURE {
-            return self.on_failure();
-        }
-        self.on_unknown()
     }
 
     // The resolution is noted with the reason why it doesn't apply.
     fn not_applicable(&self, reason: Reason) -> Reaction
         ensures { Reacts self.now result (λ _ s e. not_applicable s e reason) }
     {
-        Reaction::Say {
-            note: Note {
-                node: self.named_node(),
-                noted: Noted::NotApplicable {
-                    node: self.event.node,
-                    visit: self.event.visit,
-                    reason,
-                },
-            },
-            ending: None,
-        }
+        let noted = Noted::NotApplicable {
+            node: self.event.node,
+            visit: self.event.visit,
+            reason,
+        };
+        Reaction::noted(self.named_node(), noted)
     }
 
     // The outcome must be one that the action declares.
@@ -233,35 +226,24 @@ impl<'a> Machine<'a> {
         if self.state.invocation.phase == code::SCHEDULED {
             return self.not_applicable(Reason::NotUnknown);
         }
-        if self.event.resolution == code::RESOLVE_COMPLETE {
-            return self.resolve_as_complete();
+        match self.event.resolution {
+            code::RESOLVE_COMPLETE => self.resolve_as_complete(),
+            code::RESOLVE_RETRY => Reaction::Retry(0),
+            _ => self.resolve_as_fail(),
         }
-        if self.event.resolution == code::RESOLVE_RETRY {
-            return Reaction::Retry(0);
-        }
-        self.resolve_as_fail()
     }
 
     // An ended run only notes the event.
     pub fn on_ended(&self) -> Reaction
         ensures { Reacts self.now result (λ _ s e. on_ended s e) }
     {
-        let mut ending = None;
+        let noted = Noted::Ignored {
+            kind: self.event.kind,
+        };
         if self.event.kind == code::SIGNAL_RECEIVED {
-            ending = Some(Ending {
-                sequence: self.event.sequence,
-                ending: Ended::Ignored,
-            });
+            return Reaction::ended(self.event.sequence, Ended::Ignored, noted);
         }
-        Reaction::Say {
-            note: Note {
-                node: sheet::NONE,
-                noted: Noted::Ignored {
-                    kind: self.event.kind,
-                },
-            },
-            ending,
-        }
+        Reaction::noted(sheet::NONE, noted)
     }
 
     // What the event makes of the run.
@@ -271,21 +253,15 @@ impl<'a> Machine<'a> {
         if model::is_terminal(self.state.status) {
             return self.on_ended();
         }
-        if self.event.kind == code::RUN_STARTED {
-            return Reaction::Pass(Next::Enter {
+        match self.event.kind {
+            code::RUN_STARTED => Reaction::Pass(Next::Enter {
                 node: self.sheet[START],
                 from: sheet::NONE,
-            });
+            }),
+            code::SIGNAL_RECEIVED => self.on_signal(),
+            code::ACTIVITY_RESULT => self.on_result(),
+            code::INVOCATION_RESOLVED => self.on_resolved(),
+            _ => Reaction::Pass(Next::Rest),
         }
-        if self.event.kind == code::SIGNAL_RECEIVED {
-            return self.on_signal();
-        }
-        if self.event.kind == code::ACTIVITY_RESULT {
-            return self.on_result();
-        }
-        if self.event.kind == code::INVOCATION_RESOLVED {
-            return self.on_resolved();
-        }
-        Reaction::Pass(Next::Rest)
     }
 }

@@ -1,13 +1,16 @@
 // An invocation: which events name it, and what its failure comes to.
+#![tactic(auto, using(crate::specs::ReactionLaws::choosing), unfolding(crate::specs::ReactionLaws::performed, crate::specs::Events::named, crate::specs::Events::named_node, crate::specs::Events::applies, crate::specs::Events::stick, crate::specs::Events::fail_invocation))]
+
 ghost use Rattle.std.specs.Prelude.{◌≡◌};
 ghost use Rattle.workflow.specs.View.{workflow};
-ghost use Rattle.workflow.specs.Lookup.{routed};
+ghost use Rattle.laws.specs.Bool.{◌and◌};
+ghost use Rattle.workflow.specs.Lookup.{is_0_2, routed};
 ghost use Rattle.machine.specs.Events.{named, named_node, applies, fail_invocation};
 ghost use Rattle.machine.specs.ReactionLaws.{Reacts};
 
 use crate::events::Machine;
 use crate::reaction::Reaction;
-use model::answer::{Note, Noted};
+use model::answer::Noted;
 use model::{ErrorInfo, Output, code};
 use workflow::code as sheet;
 
@@ -17,9 +20,9 @@ impl<'a> Machine<'a> {
         ensures { result ≡ named self.now.state.now.invocation self.now.event.now }
     {
         let invocation = self.state.invocation;
-        (invocation.phase != 0)
-            & (invocation.node == self.event.node)
-            & (invocation.visit == self.event.visit)
+        invocation.phase != 0
+            && invocation.node == self.event.node
+            && invocation.visit == self.event.visit
     }
 
     // The current node, if it is the one named.
@@ -39,14 +42,22 @@ impl<'a> Machine<'a> {
     {
         let invocation = self.state.invocation;
         self.named()
-            & (invocation.attempt == self.event.attempt)
-            & (invocation.phase == code::SCHEDULED)
+            && invocation.attempt == self.event.attempt
+            && invocation.phase == code::SCHEDULED
     }
 
     fn is_routed(&self, outcome: u32) -> bool
         ensures { result ≡ routed (workflow self.now.sheet.now) self.now.state.now.position.node outcome }
     {
         workflow::find_route(self.sheet, self.state.position.node, outcome).is_some()
+    }
+
+    // Format 2 parks a failure that may park.
+    // Kept: may_park, here and below, is the definition's flag, and an enum of its two values would need a function to it (d).
+    fn parks(&self, may_park: bool) -> bool
+        ensures { result ≡ (may_park and is_0_2 (workflow self.now.sheet.now)) }
+    {
+        may_park && workflow::is_0_2(self.sheet)
     }
 
     // A failure follows route failed; without one, format 2 parks a result's failure as stuck, with its error kept, else the run fails.
@@ -61,20 +72,13 @@ impl<'a> Machine<'a> {
                 output: Output::Error(error),
             };
         }
-        let is_0_2 = workflow::is_0_2(self.sheet);
-        if may_park && is_0_2 {
-            return Reaction::Park {
-                phase: code::STUCK,
-                error: Some(error),
-                note: Note {
-                    node,
-                    noted: Noted::Stuck {
-                        visit: self.state.invocation.visit,
-                        attempt: self.state.invocation.attempt,
-                        code: error.code,
-                    },
-                },
+        if self.parks(may_park) {
+            let noted = Noted::Stuck {
+                visit: self.state.invocation.visit,
+                attempt: self.state.invocation.attempt,
+                code,
             };
+            return Reaction::parked(node, code::STUCK, Some(error), noted);
         }
         Reaction::Fail(error)
     }

@@ -16,6 +16,7 @@ use model::moves::{Move, Next, still};
 use model::{InvocationState, State, code};
 use workflow::layout::NUMBERS;
 
+#[tactic(auto, unfolding(crate::specs::ReactionLaws::performed, crate::specs::Events::complete_invocation))]
 // Sequence is set, accepted time becomes the larger of old and new; then what the event makes of the run is done.
 pub fn apply(w: &[u32; NUMBERS], mut s: State, event: Event) -> Move
     ensures { result ≡ apply (workflow w.now) s event }
@@ -31,12 +32,9 @@ pub fn apply(w: &[u32; NUMBERS], mut s: State, event: Event) -> Move
         Reaction::Pass(next) => still(s, next),
         Reaction::Store => still(s.append_signal(arrival(event)), Next::Rest),
         Reaction::Say { note, ending } => Move {
-            state: s,
-            next: Next::Rest,
             note: Some(note),
             ending,
-            order: None,
-            read: 0,
+            ..still(s, Next::Rest)
         },
         Reaction::Route { outcome, output } => {
             s.invocation = InvocationState::none();
@@ -51,12 +49,8 @@ pub fn apply(w: &[u32; NUMBERS], mut s: State, event: Event) -> Move
                 ..s.invocation
             };
             Move {
-                state: s,
-                next: Next::Rest,
                 note: Some(note),
-                ending: None,
-                order: None,
-                read: 0,
+                ..still(s, Next::Rest)
             }
         }
         Reaction::Fail(error) => s.terminate(w, error),
