@@ -1,15 +1,14 @@
--- What the rules of the nodes ask of a sheet, and a rule that applies to format 2.
-use Rattle.std.specs.Prelude.{◌≡◌, refl, Bool, true, false, List, ℕ, ltb, Option, Some, None}
+-- A rule that applies to format 2.
+use Rattle.std.specs.Prelude.{◌≡◌, refl, Bool, true, false, List, ℕ, Option, Some, None}
 use Rattle.std.proofs.Math.Path.{sym}
 use Rattle.std.proofs.Common.{◌∙◌}
 use Rattle.std.proofs.lemmas.Bool.{false≢true}
 use Rattle.laws.specs.Bool.{◌and◌}
 use Rattle.laws.specs.Rows.{span}
 use Rattle.laws.specs.In.{Hit, hit, miss, hits}
-use Rattle.workflow.specs.View.{Workflow, workflow}
+use Rattle.workflow.specs.View.{workflow}
 use Rattle.workflow.specs.Lookup.{is_0_2}
 use Rattle.graph.specs.Lowest.{lowest}
-use Rattle.graph.specs.Form.{form}
 
 -- a rule that applies to format 2
 none_passes : (m : ℕ) (p : ℕ → Bool) → ((n : ℕ) → p n ≡ false) → lowest m p ≡ None
@@ -27,8 +26,3 @@ module _ (w : List ℕ) (p : ℕ → Bool) (m : ℕ) where
   pub in_0_1 : {t : Bool} → t ≡ is_0_2 (workflow w) → t ≡ false → None ≡ lowest m (λ n. is_0_2 (workflow w) and p n)
   unfolding ◌and◌
   in_0_1 q h = sym (none_passes m (λ n. is_0_2 (workflow w) and p n) (λ n. rw (sym q ∙ h)))
-
--- A formed sheet whose start is there.
-pub record Started (f : Workflow) : Type 0 where
-  pub formed : form f ≡ true
-  pub starts : ltb f.start f.node_count ≡ true

@@ -71,6 +71,7 @@ fn formed_node(x: Node) -> bool
                 & (x.code < 65536)
                 & (x.has_limits == 0)
         }
+        // Kept: a row for each kind, and false for a number that is none (d).
         _ => false,
     }
 }

@@ -6,13 +6,12 @@ mod reach;
 mod rules;
 mod search;
 
-ghost use Rattle.std.specs.Prelude.{◌≡◌, true};
+ghost use Rattle.std.specs.Prelude.{◌≡◌, true, ltb};
 ghost use Rattle.workflow.specs.View.{workflow};
-ghost use Rattle.graph.specs.Form.{form};
 ghost use Rattle.graph.specs.Verdict.{rule, rule_at, first_broken, reach_stages, graph_stages, formed_stages, verdict};
-ghost use Rattle.graph.specs.Accepted.{Rules};
-ghost use Rattle.graph.specs.Stages.{Started};
 
+use crate::reach::Ruled;
+use crate::rules::Formed;
 use workflow::code;
 use workflow::layout::NUMBERS;
 use workflow::refusal::Refusal;
@@ -58,37 +57,33 @@ fn rule_at(refusal: Refusal, found: Option<u32>) -> Result<(), Broken>
 }
 
 // The stages, in the order of the definition.
-// Kept: a stage requires what the stages before it have found, as the definition's chain of stages has it: the form, then also the start, then
-// rules 8, 9 and 12 (d).
 
-fn reach_verdict(w: &[u32; NUMBERS]) -> Result<(), Broken>
-    requires { Rules (workflow w.now) }
-    ensures { result ≡ first_broken (reach_stages (workflow w.now)) }
+fn reach_verdict(w: &Ruled) -> Result<(), Broken>
+    ensures { result ≡ first_broken (reach_stages (workflow w.now.sheet.now)) }
 {
-    reach::rule_14(w)?;
-    reach::rule_15(w)
+    w.rule_14()?;
+    w.rule_15()
 }
 
-fn graph_verdict(w: &[u32; NUMBERS]) -> Result<(), Broken>
-    requires { Started (workflow w.now) }
-    ensures { result ≡ first_broken (graph_stages (workflow w.now)) }
+fn graph_verdict(w: &Formed) -> Result<(), Broken>
+    requires { ltb (workflow w.now.sheet.now).start (workflow w.now.sheet.now).node_count ≡ true }
+    ensures { result ≡ first_broken (graph_stages (workflow w.now.sheet.now)) }
 {
-    rules::rule_8(w)?;
-    rules::rule_9(w)?;
-    rules::rule_12(w)?;
-    reach_verdict(w)
+    w.rule_8()?;
+    w.rule_9()?;
+    w.rule_12()?;
+    reach_verdict(&Ruled { sheet: w.sheet })
 }
 
-fn formed_verdict(w: &[u32; NUMBERS], c: Ceilings) -> Result<(), Broken>
-    requires { form (workflow w.now) ≡ true }
-    ensures { result ≡ first_broken (formed_stages (workflow w.now) c) }
+fn formed_verdict(w: &Formed, c: Ceilings) -> Result<(), Broken>
+    ensures { result ≡ first_broken (formed_stages (workflow w.now.sheet.now) c) }
 {
-    rules::rule_1(w)?;
-    rules::rule_1_params(w)?;
-    rules::rule_3(w, c)?;
-    rules::rule_5(w)?;
-    rules::rule_6(w, c)?;
-    rules::actions_verdict(w, c)?;
+    w.rule_1()?;
+    w.rule_1_params()?;
+    w.rule_3(c)?;
+    w.rule_5()?;
+    w.rule_6(c)?;
+    w.actions_verdict(c)?;
     graph_verdict(w)
 }
 
@@ -97,5 +92,5 @@ pub fn validate(w: &[u32; NUMBERS], c: Ceilings) -> Result<(), Broken>
     ensures { result ≡ verdict (workflow w.now) c }
 {
     form::rule_20(w)?;
-    formed_verdict(w, c)
+    formed_verdict(&Formed { sheet: w }, c)
 }

@@ -36,53 +36,6 @@ fn turned(back: bool, x: Route) -> Route
     }
 }
 
-// For each node, the nodes that a route leads to.
-fn masks(w: &[u32; NUMBERS], back: bool) -> [u64; layout::NODES]
-    requires { Rules (workflow w.now) }
-    ensures { result ≡ masks (workflow w.now) back }
-{
-    let k = capped(w[layout::ROUTE_COUNT], layout::ROUTES);
-    let mut masks = [0u64; layout::NODES];
-    for i in 0..k {
-        let x = turned(back, route_at(w, i));
-        masks[x.node as usize] |= bit(x.target);
-    }
-    masks
-}
-
-// What is reached from a set: the mask of each node of it is added once.
-fn closed(w: &[u32; NUMBERS], back: bool, start: u64) -> u64
-    requires { (Rules (workflow w.now)) × (start < 2 ^ (workflow w.now).node_count) }
-    ensures { result ≡ closed (workflow w.now) back start }
-{
-    let masks = masks(w, back);
-    let mut set = start;
-    let mut done: u64 = 0;
-    let mut frontier = start;
-    // Kept: the set itself says how often the loop runs, so there is no range to go over (d).
-    while frontier != 0 {
-        let n = u64::trailing_zeros(frontier);
-        done |= bit(n);
-        set |= masks[n as usize];
-        frontier = set & !done;
-    }
-    set
-}
-
-// The nodes that end a run.
-fn ends(w: &[u32; NUMBERS]) -> u64
-    requires { Rules (workflow w.now) }
-    ensures { result ≡ ends (workflow w.now) }
-{
-    let mut set = 0;
-    for node in 0..w[layout::NODE_COUNT] {
-        if code::COMPLETE <= node_of(w, node).kind {
-            set |= bit(node);
-        }
-    }
-    set
-}
-
 // The lowest node that a set lacks: the lowest zero.
 fn missing(set: u64, count: u32) -> Option<u32>
     requires { count ≤ 64 }
@@ -92,31 +45,81 @@ fn missing(set: u64, count: u32) -> Option<u32>
     (n < count).then_some(n)
 }
 
-// In format 2: the lowest node that is not reached from a set along the routes.
-fn lowest_unreached(w: &[u32; NUMBERS], back: bool, start: u64) -> Option<u32>
-    requires { (Rules (workflow w.now)) × (start < 2 ^ (workflow w.now).node_count) }
-    ensures { result ≡ lowest (workflow w.now).node_count (unreached (workflow w.now) back start) }
-{
-    if is_0_2(w) {
-        missing(closed(w, back, start), w[layout::NODE_COUNT])
-    } else {
-        None
+// A sheet that rules 20, 5, 8, 9 and 12 hold of.
+#[derive(Clone, Copy)]
+pub struct Ruled<'a> {
+    pub sheet: &'a [u32; NUMBERS],
+    ghost ruled: { Rules (workflow sheet.now) },
+}
+
+impl<'a> Ruled<'a> {
+    // For each node, the nodes that a route leads to.
+    fn masks(&self, back: bool) -> [u64; layout::NODES]
+        ensures { result ≡ masks (workflow self.now.sheet.now) back }
+    {
+        let k = capped(self.sheet[layout::ROUTE_COUNT], layout::ROUTES);
+        let mut masks = [0u64; layout::NODES];
+        for i in 0..k {
+            let x = turned(back, route_at(self.sheet, i));
+            masks[x.node as usize] |= bit(x.target);
+        }
+        masks
     }
-}
 
-pub fn rule_14(w: &[u32; NUMBERS]) -> Result<(), Broken>
-    requires { Rules (workflow w.now) }
-    ensures { result ≡ rule_at Refusal.Unreached (lowest (workflow w.now).node_count (breaks_14 (workflow w.now))) }
-{
-    rule_at(
-        Refusal::Unreached,
-        lowest_unreached(w, false, bit(w[layout::START])),
-    )
-}
+    // What is reached from a set: the mask of each node of it is added once.
+    fn closed(&self, back: bool, start: u64) -> u64
+        requires { start < 2 ^ (workflow self.now.sheet.now).node_count }
+        ensures { result ≡ closed (workflow self.now.sheet.now) back start }
+    {
+        let masks = self.masks(back);
+        let mut set = start;
+        let mut done: u64 = 0;
+        let mut frontier = start;
+        // Kept: the set itself says how often the loop runs, so there is no range to go over (d).
+        while frontier != 0 {
+            let n = u64::trailing_zeros(frontier);
+            done |= bit(n);
+            set |= masks[n as usize];
+            frontier = set & !done;
+        }
+        set
+    }
 
-pub fn rule_15(w: &[u32; NUMBERS]) -> Result<(), Broken>
-    requires { Rules (workflow w.now) }
-    ensures { result ≡ rule_at Refusal.Unending (lowest (workflow w.now).node_count (breaks_15 (workflow w.now))) }
-{
-    rule_at(Refusal::Unending, lowest_unreached(w, true, ends(w)))
+    // The nodes that end a run.
+    fn ends(&self) -> u64
+        ensures { result ≡ ends (workflow self.now.sheet.now) }
+    {
+        let mut set = 0;
+        for node in 0..self.sheet[layout::NODE_COUNT] {
+            if code::COMPLETE <= node_of(self.sheet, node).kind {
+                set |= bit(node);
+            }
+        }
+        set
+    }
+
+    // In format 2: the lowest node that is not reached from a set along the routes.
+    fn lowest_unreached(&self, back: bool, start: u64) -> Option<u32>
+        requires { start < 2 ^ (workflow self.now.sheet.now).node_count }
+        ensures { result ≡ lowest (workflow self.now.sheet.now).node_count (unreached (workflow self.now.sheet.now) back start) }
+    {
+        if is_0_2(self.sheet) {
+            missing(self.closed(back, start), self.sheet[layout::NODE_COUNT])
+        } else {
+            None
+        }
+    }
+
+    pub fn rule_14(&self) -> Result<(), Broken>
+        ensures { result ≡ rule_at Refusal.Unreached (lowest (workflow self.now.sheet.now).node_count (breaks_14 (workflow self.now.sheet.now))) }
+    {
+        let start = bit(self.sheet[layout::START]);
+        rule_at(Refusal::Unreached, self.lowest_unreached(false, start))
+    }
+
+    pub fn rule_15(&self) -> Result<(), Broken>
+        ensures { result ≡ rule_at Refusal.Unending (lowest (workflow self.now.sheet.now).node_count (breaks_15 (workflow self.now.sheet.now))) }
+    {
+        rule_at(Refusal::Unending, self.lowest_unreached(true, self.ends()))
+    }
 }

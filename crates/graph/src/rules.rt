@@ -29,56 +29,78 @@ const OUTCOME_FAILED: usize = code::FAILED as usize;
 
 const OUTCOME_EXHAUSTED: usize = code::EXHAUSTED as usize;
 
-// Outcomes as marks.
-
-fn marks(outcomes: &[u32]) -> [bool; OUTCOMES]
-    requires { AreOutcomes outcomes.now }
-    ensures { result ≡ marked outcomes.now }
-{
-    let mut m = [false; OUTCOMES];
-    for outcome in outcomes {
-        m[*outcome as usize] = true;
-    }
-    m
+// Outcomes, of some rows.
+#[derive(Clone, Copy)]
+struct Outcomes<'a> {
+    numbers: &'a [u32],
+    ghost small: { AreOutcomes numbers.now },
 }
 
-// Some outcome is not marked.
-fn has_unmarked(outcomes: &[u32], m: &[bool; OUTCOMES]) -> bool
-    requires { AreOutcomes outcomes.now }
-    ensures { result ≡ some (unmarked m.now) outcomes.now }
-{
-    outcomes.iter().any(|outcome| !m[*outcome as usize])
+impl<'a> Outcomes<'a> {
+    // The outcomes as marks.
+    fn marks(&self) -> [bool; OUTCOMES]
+        ensures { result ≡ marked self.now.numbers.now }
+    {
+        let mut m = [false; OUTCOMES];
+        for outcome in self.numbers {
+            m[*outcome as usize] = true;
+        }
+        m
+    }
+
+    // Some outcome is not marked.
+    fn has_unmarked(&self, m: &[bool; OUTCOMES]) -> bool
+        ensures { result ≡ some (unmarked m.now) self.now.numbers.now }
+    {
+        self.numbers.iter().any(|outcome| !m[*outcome as usize])
+    }
+
+    // An outcome is reserved, or stands there twice.
+    // Kept: `two` says what is marked at first; and a loop, since each outcome is marked when it has been looked at (d).
+    fn is_declared_again(&self, two: bool) -> bool
+        ensures { result ≡ again (reserved_marks two) self.now.numbers.now }
+    {
+        let mut m = [false; OUTCOMES];
+        m[OUTCOME_FAILED] = true;
+        m[OUTCOME_EXHAUSTED] = two;
+        for outcome in self.numbers {
+            let o = *outcome as usize;
+            if m[o] {
+                return true;
+            }
+            m[o] = true;
+        }
+        false
+    }
+
+    // The outcomes that an activity may route: those its action declares, failed, and exhausted where it may.
+    // Kept: `exhausted` is one of the marks (d).
+    fn known(&self, exhausted: bool) -> [bool; OUTCOMES]
+        ensures { result ≡ known (marked self.now.numbers.now) exhausted }
+    {
+        let mut known = self.marks();
+        known[OUTCOME_FAILED] = true;
+        known[OUTCOME_EXHAUSTED] |= exhausted;
+        known
+    }
+
+    // A limit is out of range, or its outcome is not marked.
+    fn has_bad_limit(&self, limits: &[u32], m: &[bool; OUTCOMES], most: u32) -> bool
+        ensures { result ≡ some (bad_row m.now most) (zip self.now.numbers.now limits.now) }
+    {
+        self.numbers.iter().zip(limits).any(|(outcome, limit)| !m[*outcome as usize]
+            | is_out_of_range(most, *limit))
+    }
+}
+
+// A sheet whose form holds.
+#[derive(Clone, Copy)]
+pub struct Formed<'a> {
+    pub sheet: &'a [u32; NUMBERS],
+    ghost formed: { form (workflow sheet.now) ≡ true },
 }
 
 // Rules 1, 3, 5 and 6.
-
-// 1: a known format.
-pub fn rule_1(w: &[u32; NUMBERS]) -> Result<(), Broken>
-    ensures { result ≡ rule Refusal.Format (eqb (workflow w.now).format format_0_1 or is_0_2 (workflow w.now)) }
-{
-    rule(
-        Refusal::Format,
-        w[layout::FORMAT] == code::FORMAT_0_1 || is_0_2(w),
-    )
-}
-
-// 1: no params in format 1.
-fn lowest_with_params(w: &[u32; NUMBERS]) -> Option<u32>
-    requires { form (workflow w.now) ≡ true }
-    ensures { result ≡ lowest (workflow w.now).node_count (breaks_1 (workflow w.now)) }
-{
-    if is_0_2(w) {
-        return None;
-    }
-    (0..w[layout::NODE_COUNT]).find(|node| w[layout::NODE_HAS_PARAMS + *node as usize] == 1)
-}
-
-pub fn rule_1_params(w: &[u32; NUMBERS]) -> Result<(), Broken>
-    requires { form (workflow w.now) ≡ true }
-    ensures { result ≡ rule_at Refusal.Format (lowest (workflow w.now).node_count (breaks_1 (workflow w.now))) }
-{
-    rule_at(Refusal::Format, lowest_with_params(w))
-}
 
 // In 1 to the most.
 fn is_within(most: u32, x: u32) -> bool
@@ -87,58 +109,73 @@ fn is_within(most: u32, x: u32) -> bool
     (1..=most).contains(&x)
 }
 
-// 3: there are nodes, and no more than there may be.
-pub fn rule_3(w: &[u32; NUMBERS], c: Ceilings) -> Result<(), Broken>
-    ensures { result ≡ rule Refusal.Nodes (within c.nodes (workflow w.now).node_count) }
-{
-    rule(Refusal::Nodes, is_within(c.nodes, w[layout::NODE_COUNT]))
-}
+impl<'a> Formed<'a> {
+    // 1: a known format.
+    pub fn rule_1(&self) -> Result<(), Broken>
+        ensures { result ≡ rule Refusal.Format (eqb (workflow self.now.sheet.now).format format_0_1 or is_0_2 (workflow self.now.sheet.now)) }
+    {
+        let holds = self.sheet[layout::FORMAT] == code::FORMAT_0_1 || is_0_2(self.sheet);
+        rule(Refusal::Format, holds)
+    }
 
-// 5: the start is there.
-pub fn rule_5(w: &[u32; NUMBERS]) -> Result<(), Broken>
-    ensures { result ≡ rule Refusal.Start (ltb (workflow w.now).start (workflow w.now).node_count) }
-{
-    rule(Refusal::Start, w[layout::START] < w[layout::NODE_COUNT])
-}
+    // 1: no params in format 1.
+    fn lowest_with_params(&self) -> Option<u32>
+        ensures { result ≡ lowest (workflow self.now.sheet.now).node_count (breaks_1 (workflow self.now.sheet.now)) }
+    {
+        let w = self.sheet;
+        if is_0_2(w) {
+            return None;
+        }
+        (0..w[layout::NODE_COUNT]).find(|node| w[layout::NODE_HAS_PARAMS + *node as usize] == 1)
+    }
 
-// 6: the limits are in range.
-pub fn rule_6(w: &[u32; NUMBERS], c: Ceilings) -> Result<(), Broken>
-    ensures { result ≡ rule Refusal.Limits (within c.visits (workflow w.now).max_visits_per_node and within c.activations (workflow w.now).max_activations) }
-{
-    let holds = is_within(c.visits, w[layout::MAX_VISITS_PER_NODE])
-        && is_within(c.activations, w[layout::MAX_ACTIVATIONS]);
-    rule(Refusal::Limits, holds)
+    pub fn rule_1_params(&self) -> Result<(), Broken>
+        ensures { result ≡ rule_at Refusal.Format (lowest (workflow self.now.sheet.now).node_count (breaks_1 (workflow self.now.sheet.now))) }
+    {
+        rule_at(Refusal::Format, self.lowest_with_params())
+    }
+
+    // 3: there are nodes, and no more than there may be.
+    pub fn rule_3(&self, c: Ceilings) -> Result<(), Broken>
+        ensures { result ≡ rule Refusal.Nodes (within c.nodes (workflow self.now.sheet.now).node_count) }
+    {
+        rule(
+            Refusal::Nodes,
+            is_within(c.nodes, self.sheet[layout::NODE_COUNT]),
+        )
+    }
+
+    // 5: the start is there.
+    pub fn rule_5(&self) -> Result<(), Broken>
+        ensures { result ≡ rule Refusal.Start (ltb (workflow self.now.sheet.now).start (workflow self.now.sheet.now).node_count) }
+    {
+        rule(
+            Refusal::Start,
+            self.sheet[layout::START] < self.sheet[layout::NODE_COUNT],
+        )
+    }
+
+    // 6: the limits are in range.
+    pub fn rule_6(&self, c: Ceilings) -> Result<(), Broken>
+        ensures { result ≡ rule Refusal.Limits (within c.visits (workflow self.now.sheet.now).max_visits_per_node and within c.activations (workflow self.now.sheet.now).max_activations) }
+    {
+        let holds = is_within(c.visits, self.sheet[layout::MAX_VISITS_PER_NODE])
+            && is_within(c.activations, self.sheet[layout::MAX_ACTIVATIONS]);
+        rule(Refusal::Limits, holds)
+    }
 }
 
 // Rules 16 and 7, action by action.
-
-// An outcome is reserved, or stands there twice.
-// Kept: `two` says what is marked at first; and a loop, since each outcome is marked when it has been looked at (d).
-fn is_declared_again(outcomes: &[u32], two: bool) -> bool
-    requires { AreOutcomes outcomes.now }
-    ensures { result ≡ again (reserved_marks two) outcomes.now }
-{
-    let mut m = [false; OUTCOMES];
-    m[OUTCOME_FAILED] = true;
-    m[OUTCOME_EXHAUSTED] = two;
-    for outcome in outcomes {
-        let o = *outcome as usize;
-        if m[o] {
-            return true;
-        }
-        m[o] = true;
-    }
-    false
-}
 
 fn breaks_7(w: &[u32; NUMBERS], most: u32, action: u32, rows: Rows) -> bool
     requires { DeclaredOf w.now action rows }
     ensures { result ≡ breaks_7 (workflow w.now) most action }
 {
     let x = policy_of(w, action);
-    rows.is_empty()
-        || is_declared_again(rows.numbers(w, layout::DECLARED_OUTCOME), is_0_2(w))
-        || !is_within(most, x.max_attempts)
+    let declared = Outcomes {
+        numbers: rows.numbers(w, layout::DECLARED_OUTCOME),
+    };
+    rows.is_empty() || declared.is_declared_again(is_0_2(w)) || !is_within(most, x.max_attempts)
 }
 
 fn action_verdict(w: &[u32; NUMBERS], c: Ceilings, action: u32, rows: Rows) -> Result<(), Broken>
@@ -161,33 +198,23 @@ fn action_verdict(w: &[u32; NUMBERS], c: Ceilings, action: u32, rows: Rows) -> R
     Ok(())
 }
 
-pub fn actions_verdict(w: &[u32; NUMBERS], c: Ceilings) -> Result<(), Broken>
-    requires { form (workflow w.now) ≡ true }
-    ensures { result ≡ actions_verdict (workflow w.now) c }
-{
-    let k = capped(w[layout::DECLARED_COUNT], layout::DECLARED);
-    let mut from = 0;
-    for action in 0..w[layout::ACTION_COUNT] {
-        let rows = Rows::starting_at(w, layout::DECLARED_ACTION, from, k, action);
-        action_verdict(w, c, action, rows)?;
-        from = rows.to;
+impl<'a> Formed<'a> {
+    pub fn actions_verdict(&self, c: Ceilings) -> Result<(), Broken>
+        ensures { result ≡ actions_verdict (workflow self.now.sheet.now) c }
+    {
+        let w = self.sheet;
+        let k = capped(w[layout::DECLARED_COUNT], layout::DECLARED);
+        let mut from = 0;
+        for action in 0..w[layout::ACTION_COUNT] {
+            let rows = Rows::starting_at(w, layout::DECLARED_ACTION, from, k, action);
+            action_verdict(w, c, action, rows)?;
+            from = rows.to;
+        }
+        Ok(())
     }
-    Ok(())
 }
 
 // Rules 8, 9 and 12, node by node.
-
-// The outcomes that an activity may route: those its action declares, failed, and exhausted where it may.
-// Kept: `exhausted` is one of the marks (d).
-fn known(declared: &[u32], exhausted: bool) -> [bool; OUTCOMES]
-    requires { AreOutcomes declared.now }
-    ensures { result ≡ known (marked declared.now) exhausted }
-{
-    let mut known = marks(declared);
-    known[OUTCOME_FAILED] = true;
-    known[OUTCOME_EXHAUSTED] |= exhausted;
-    known
-}
 
 // Kept: | here and in `has_bad_limit`, since with || a verdict on a full sheet takes 1.15 times as long (b).
 // A limit that is 0 or not below the most visits: one more than it stays at the largest number.
@@ -195,15 +222,6 @@ fn is_out_of_range(most: u32, limit: u32) -> bool
     ensures { result ≡ out_of_range most limit }
 {
     (limit == 0) | (most < limit.saturating_add(1))
-}
-
-// A limit is out of range, or its outcome is not marked.
-fn has_bad_limit(outcomes: &[u32], limits: &[u32], m: &[bool; OUTCOMES], most: u32) -> bool
-    requires { AreOutcomes outcomes.now }
-    ensures { result ≡ some (bad_row m.now most) (zip outcomes.now limits.now) }
-{
-    outcomes.iter().zip(limits).any(|(outcome, limit)| !m[*outcome as usize]
-        | is_out_of_range(most, *limit))
 }
 
 // A node of a formed sheet, with its routes.
@@ -223,11 +241,12 @@ impl<'a> At<'a> {
     }
 
     // The outcomes that are routed.
-    fn outcomes(&self) -> &'a [u32]
-        ensures value { result.now ≡ span (cell self.now.sheet.now layout.route_outcome) self.now.routes.from self.now.routes.to }
-        ensures small { AreOutcomes result.now }
+    fn outcomes(&self) -> Outcomes<'a>
+        ensures { result.numbers.now ≡ span (cell self.now.sheet.now layout.route_outcome) self.now.routes.from self.now.routes.to }
     {
-        self.routes.numbers(self.sheet, layout::ROUTE_OUTCOME)
+        Outcomes {
+            numbers: self.routes.numbers(self.sheet, layout::ROUTE_OUTCOME),
+        }
     }
 
     // A target is no node.
@@ -252,10 +271,12 @@ impl<'a> At<'a> {
     {
         let k = capped(self.sheet[layout::DECLARED_COUNT], layout::DECLARED);
         let rows = Rows::of(self.sheet, layout::DECLARED_ACTION, k, action);
-        let declared = rows.numbers(self.sheet, layout::DECLARED_OUTCOME);
+        let declared = Outcomes {
+            numbers: rows.numbers(self.sheet, layout::DECLARED_OUTCOME),
+        };
         let routed = self.outcomes();
-        has_unmarked(declared, &marks(routed))
-            || has_unmarked(routed, &known(declared, self.may_route_exhausted()))
+        declared.has_unmarked(&routed.marks())
+            || routed.has_unmarked(&declared.known(self.may_route_exhausted()))
             || self.leads_nowhere()
     }
 
@@ -271,7 +292,7 @@ impl<'a> At<'a> {
     fn routes_exhausted(&self) -> bool
         ensures { result ≡ routes_exhausted (workflow self.now.sheet.now) self.now.node }
     {
-        let routed = self.outcomes();
+        let routed = self.outcomes().numbers;
         is_0_2(self.sheet) && routed.contains(&code::EXHAUSTED) && !self.may_route_exhausted()
     }
 
@@ -288,13 +309,16 @@ impl<'a> At<'a> {
         requires { LimitsOf self.now.sheet.now self.now.node limits }
         ensures { result ≡ misses (workflow self.now.sheet.now) self.now.node }
     {
-        let mut routed = marks(self.outcomes());
+        let mut routed = self.outcomes().marks();
+        // Kept: an early answer, since the marks change behind it (d).
         if !routed[OUTCOME_EXHAUSTED] {
             return true;
         }
         routed[OUTCOME_EXHAUSTED] = false;
-        has_bad_limit(
-            limits.numbers(self.sheet, layout::LIMIT_OUTCOME),
+        let limited = Outcomes {
+            numbers: limits.numbers(self.sheet, layout::LIMIT_OUTCOME),
+        };
+        limited.has_bad_limit(
             limits.numbers(self.sheet, layout::LIMIT_LIMIT),
             &routed,
             self.sheet[layout::MAX_VISITS_PER_NODE],
@@ -304,7 +328,7 @@ impl<'a> At<'a> {
     fn breaks_12(&self) -> bool
         ensures { result ≡ breaks_12 (workflow self.now.sheet.now) self.now.node }
     {
-        // Kept: early answers, since the limits are looked for only behind them; in `misses` the marks change behind one (d).
+        // Kept: early answers, since the limits are looked for only behind them (d).
         if self.row().has_limits != 1 {
             return false;
         }
@@ -317,47 +341,52 @@ impl<'a> At<'a> {
     }
 }
 
-// The lowest node that breaks a rule.
-fn lowest_breaking<'a, F: Fn(&At<'a>) -> bool>(w: &'a [u32; NUMBERS], breaks: F) -> Option<u32>
-    requires formed { form (workflow w.now) ≡ true }
-    requires callable { F.IsAlwaysCallable breaks }
-    ensures { (p : ℕ → Bool) → ((at : Bor At) (b : Bool) → at.now.sheet.now ≡ w.now → F.post breaks at b → b ≡ p at.now.node) → result ≡ lowest (workflow w.now).node_count p }
-{
-    let k = capped(w[layout::ROUTE_COUNT], layout::ROUTES);
-    let mut from = 0;
-    for node in 0..w[layout::NODE_COUNT] {
-        let routes = Rows::starting_at(w, layout::ROUTE_NODE, from, k, node);
-        if breaks(&At {
-            sheet: w,
-            node,
-            routes,
-        }) {
-            return Some(node);
+impl<'a> Formed<'a> {
+    // The lowest node that breaks a rule.
+    fn lowest_breaking<F: Fn(&At<'a>) -> bool>(&self, breaks: F) -> Option<u32>
+        requires { F.IsAlwaysCallable breaks }
+        ensures { (p : ℕ → Bool) → ((at : Bor At) (b : Bool) → at.now.sheet.now ≡ self.now.sheet.now → F.post breaks at b → b ≡ p at.now.node) → result ≡ lowest (workflow self.now.sheet.now).node_count p }
+    {
+        let w = self.sheet;
+        let k = capped(w[layout::ROUTE_COUNT], layout::ROUTES);
+        let mut from = 0;
+        for node in 0..w[layout::NODE_COUNT] {
+            let routes = Rows::starting_at(w, layout::ROUTE_NODE, from, k, node);
+            if breaks(&At {
+                sheet: w,
+                node,
+                routes,
+            }) {
+                return Some(node);
+            }
+            from = routes.to;
         }
-        from = routes.to;
+        None
     }
-    None
-}
 
-// Kept: a line each, for the rule's refusal and its method (d).
+    // Kept: a line each, for the rule's refusal and its method (d).
 
-pub fn rule_8(w: &[u32; NUMBERS]) -> Result<(), Broken>
-    requires { form (workflow w.now) ≡ true }
-    ensures { result ≡ rule_at Refusal.Activity (lowest (workflow w.now).node_count (breaks_8 (workflow w.now))) }
-{
-    rule_at(Refusal::Activity, lowest_breaking(w, |at| at.breaks_8()))
-}
+    pub fn rule_8(&self) -> Result<(), Broken>
+        ensures { result ≡ rule_at Refusal.Activity (lowest (workflow self.now.sheet.now).node_count (breaks_8 (workflow self.now.sheet.now))) }
+    {
+        rule_at(Refusal::Activity, self.lowest_breaking(|at| at.breaks_8()))
+    }
 
-pub fn rule_9(w: &[u32; NUMBERS]) -> Result<(), Broken>
-    requires { form (workflow w.now) ≡ true }
-    ensures { result ≡ rule_at Refusal.AwaitSignal (lowest (workflow w.now).node_count (breaks_9 (workflow w.now))) }
-{
-    rule_at(Refusal::AwaitSignal, lowest_breaking(w, |at| at.breaks_9()))
-}
+    pub fn rule_9(&self) -> Result<(), Broken>
+        ensures { result ≡ rule_at Refusal.AwaitSignal (lowest (workflow self.now.sheet.now).node_count (breaks_9 (workflow self.now.sheet.now))) }
+    {
+        rule_at(
+            Refusal::AwaitSignal,
+            self.lowest_breaking(|at| at.breaks_9()),
+        )
+    }
 
-pub fn rule_12(w: &[u32; NUMBERS]) -> Result<(), Broken>
-    requires { form (workflow w.now) ≡ true }
-    ensures { result ≡ rule_at Refusal.LoopLimits (lowest (workflow w.now).node_count (breaks_12 (workflow w.now))) }
-{
-    rule_at(Refusal::LoopLimits, lowest_breaking(w, |at| at.breaks_12()))
+    pub fn rule_12(&self) -> Result<(), Broken>
+        ensures { result ≡ rule_at Refusal.LoopLimits (lowest (workflow self.now.sheet.now).node_count (breaks_12 (workflow self.now.sheet.now))) }
+    {
+        rule_at(
+            Refusal::LoopLimits,
+            self.lowest_breaking(|at| at.breaks_12()),
+        )
+    }
 }

@@ -21,7 +21,7 @@ pub returns-in_err-actions_verdict : goal.returns-in_err-actions_verdict
 returns-in_err-actions_verdict c = goes_on _ c.in_ok-rule_1.ensures (goes_on _ c.in_ok-rule_1_params.ensures (goes_on _ c.in_ok-rule_3.ensures (goes_on _ c.in_ok-rule_5.ensures (goes_on _ c.in_ok-rule_6.ensures (stops _ c.in_err-actions_verdict.ensures c.from_residual-in_err-actions_verdict.ensures.1)))))
 
 pub graph_verdict-requires : goal.graph_verdict-requires
-graph_verdict-requires c = record { formed = c.requires; starts = rule_passed Refusal.Start c.in_ok-rule_5.ensures }
+graph_verdict-requires c = rule_passed Refusal.Start c.in_ok-rule_5.ensures
 
 pub returns : goal.returns
 returns c = goes_on _ c.in_ok-rule_1.ensures (goes_on _ c.in_ok-rule_1_params.ensures (goes_on _ c.in_ok-rule_3.ensures (goes_on _ c.in_ok-rule_5.ensures (goes_on _ c.in_ok-rule_6.ensures (goes_on _ c.in_ok-actions_verdict.ensures c.graph_verdict.ensures)))))

@@ -7,8 +7,8 @@ pub returns-in_err-rule_20 : goal.returns-in_err-rule_20
 unfolding verdict
 returns-in_err-rule_20 c = stops _ c.in_err-rule_20.ensures c.from_residual.ensures.1
 
-pub formed_verdict-requires : goal.formed_verdict-requires
-formed_verdict-requires c = rule_passed Refusal.Form c.in_ok-rule_20.ensures
+pub invariant_of-formed_verdict : goal.invariant_of-formed_verdict
+invariant_of-formed_verdict c = record { formed = rule_passed Refusal.Form c.in_ok-rule_20.ensures }
 
 pub returns : goal.returns
 unfolding verdict

@@ -6,8 +6,8 @@ use Rattle.graph.proofs.rules.breaks_7.Goals as goal
 pub numbers-requires : goal.numbers-requires
 numbers-requires c = declared_within c.requires _ (omega arith)
 
-pub is_declared_again-requires : goal.is_declared_again-requires
-is_declared_again-requires c = rw c.numbers.ensures (declared_outcomes c.requires)
+pub invariant_of-declared : goal.invariant_of-declared
+invariant_of-declared c = record { small = rw c.numbers.ensures (declared_outcomes c.requires) }
 
 pub returns-then-is_declared_again : goal.returns-then-is_declared_again
 unfolding ◌or◌

@@ -6,19 +6,16 @@ use Rattle.graph.proofs.rules.At.misroutes.Goals as goal
 pub of-rows-requires : goal.of-rows-requires
 of-rows-requires c = rw c.capped-k.ensures (actions_rise _ c.args.self.now.of_node.formed)
 
-pub numbers-declared-requires : goal.numbers-declared-requires
-numbers-declared-requires c = declared_within (the_group c.args.self.now.of_node.formed c.capped-k.ensures c.of-rows.ensures) _ (omega arith)
+pub numbers-requires : goal.numbers-requires
+numbers-requires c = declared_within (the_group c.args.self.now.of_node.formed c.capped-k.ensures c.of-rows.ensures) _ (omega arith)
 
-pub has_unmarked-requires : goal.has_unmarked-requires
-has_unmarked-requires c = rw c.numbers-declared.ensures (declared_outcomes (the_group c.args.self.now.of_node.formed c.capped-k.ensures c.of-rows.ensures))
-
-pub known-requires : goal.known-requires
-known-requires c = rw c.numbers-declared.ensures (declared_outcomes (the_group c.args.self.now.of_node.formed c.capped-k.ensures c.of-rows.ensures))
+pub invariant_of-declared : goal.invariant_of-declared
+invariant_of-declared c = record { small = rw c.numbers.ensures (declared_outcomes (the_group c.args.self.now.of_node.formed c.capped-k.ensures c.of-rows.ensures)) }
 
 pub returns-then-has_unmarked-2 : goal.returns-then-has_unmarked-2
 unfolding ◌or◌
-returns-then-has_unmarked-2 c = rw (misroutes_at c.args.self.now.of_node (the_group c.args.self.now.of_node.formed c.capped-k.ensures c.of-rows.ensures), ← c.numbers-declared.ensures, ← c.outcomes-routed.ensures.value) (search rules)
+returns-then-has_unmarked-2 c = rw (misroutes_at c.args.self.now.of_node (the_group c.args.self.now.of_node.formed c.capped-k.ensures c.of-rows.ensures), ← c.numbers.ensures, ← c.outcomes-routed.ensures) (search rules)
 
 pub returns-else-has_unmarked-2 : goal.returns-else-has_unmarked-2
 unfolding ◌or◌
-returns-else-has_unmarked-2 c = rw (misroutes_at c.args.self.now.of_node (the_group c.args.self.now.of_node.formed c.capped-k.ensures c.of-rows.ensures), ← c.numbers-declared.ensures, ← c.outcomes-routed.ensures.value) (search rules)
+returns-else-has_unmarked-2 c = rw (misroutes_at c.args.self.now.of_node (the_group c.args.self.now.of_node.formed c.capped-k.ensures c.of-rows.ensures), ← c.numbers.ensures, ← c.outcomes-routed.ensures) (search rules)

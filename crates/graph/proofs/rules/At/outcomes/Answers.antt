@@ -5,5 +5,5 @@ use Rattle.graph.proofs.rules.At.outcomes.Goals as goal
 pub numbers-requires : goal.numbers-requires
 numbers-requires c = routes_within c.args.self.now.of_node _ (omega arith)
 
-pub returns-clause-small : goal.returns-clause-small
-returns-clause-small c = rw c.numbers.ensures (routes_outcomes c.args.self.now.of_node)
+pub invariant_of-result : goal.invariant_of-result
+invariant_of-result c = record { small = rw c.numbers.ensures (routes_outcomes c.args.self.now.of_node) }

@@ -7,8 +7,8 @@ use Rattle.graph.proofs.rules.At.routes_exhausted.Goals as goal
 
 pub returns-then-contains : goal.returns-then-contains
 unfolding routes_exhausted ◌and◌
-returns-then-contains c = rw (routed_among c.args.self.now.of_node exhausted, ← some_any, ← c.outcomes-routed.ensures.value) (search rules)
+returns-then-contains c = rw (routed_among c.args.self.now.of_node exhausted, ← some_any, ← c.outcomes.ensures) (search rules)
 
 pub returns-else-contains : goal.returns-else-contains
 unfolding routes_exhausted ◌and◌
-returns-else-contains c = rw (routed_among c.args.self.now.of_node exhausted, ← some_any, ← c.outcomes-routed.ensures.value) (search rules)
+returns-else-contains c = rw (routed_among c.args.self.now.of_node exhausted, ← some_any, ← c.outcomes.ensures) (search rules)
