@@ -9,3 +9,4 @@ pub mod ByCount
 pub mod WriteRows
 pub mod RowLaws
 pub mod Receipt
+pub mod Tests

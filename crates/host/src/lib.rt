@@ -1,5 +1,5 @@
 // The boundary for hosts: a call, a run record and an answer as plain numbers (docs/NUMBERS.md).
-#![tactic(auto)]
+#![tactic(auto, using(model::specs::RouteLaws::deciding), unfolding(crate::specs::Receipt::by_numbers, crate::specs::Host::verdict_numbers))]
 
 pub mod layout;
 pub mod read;

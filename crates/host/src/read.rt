@@ -1,5 +1,5 @@
 // A run record and a call from their numbers (docs/NUMBERS.md). A number that its field can't hold is read modulo 2^32.
-#![tactic(auto, unfolding(crate::specs::Read::narrow, crate::specs::Read::error_of, crate::specs::Read::position_of, crate::specs::Read::invocation_of, crate::specs::Read::run_result_of, crate::specs::Read::event_of, crate::specs::Read::mapping_of, crate::specs::Read::ceilings_of, crate::specs::Read::limits_of, crate::specs::Read::call_of))]
+#![tactic(auto, using(model::specs::RouteLaws::deciding, crate::specs::Tests::fits_each), unfolding(crate::specs::Read::narrow, crate::specs::Read::error_of, crate::specs::Read::output_of, crate::specs::Read::kept_of, crate::specs::Read::position_of, crate::specs::Read::invocation_of, crate::specs::Read::run_result_of, crate::specs::Read::event_of, crate::specs::Read::mapping_of, crate::specs::Read::ceilings_of, crate::specs::Read::limits_of, crate::specs::Read::call_of, crate::specs::Read::output_fits, crate::specs::Read::kept_fits, crate::specs::Read::head_fits, crate::specs::Read::signal_fits, crate::specs::Read::node_fits, crate::specs::Read::call_fits))]
 
 ghost use Rattle.std.specs.Prelude.{◌≡◌, ◌≤◌, ◌<◌, length};
 ghost use Rattle.host.specs.Layout.{store, nodes, mappings};
@@ -180,16 +180,9 @@ pub fn read_record(xs: &[u64; layout::RECORD], used: Used) -> State
     ensures { result ≡ record_rows used.signals used.nodes xs.now }
 {
     let mut signals = [BufferedSignal::none(); layout::STORE];
-    let mut visits = [Visits { count: 0 }; layout::NODES];
-    let mut streaks = [Streak {
-        outcome: 0,
-        count: 0,
-    }; layout::NODES];
-    let mut results = [NodeResult {
-        visit: 0,
-        outcome: 0,
-        output: Output::Nothing,
-    }; layout::NODES];
+    let mut visits = [Visits::none(); layout::NODES];
+    let mut streaks = [Streak::none(); layout::NODES];
+    let mut results = [NodeResult::none(); layout::NODES];
     read_rows(&mut signals[..used.signals], xs);
     read_rows(&mut visits[..used.nodes], xs);
     read_rows(&mut streaks[..used.nodes], xs);
