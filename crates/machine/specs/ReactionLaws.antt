@@ -10,7 +10,7 @@ use Rattle.model.specs.declared.answer.Ending.{Ending}
 use Rattle.model.specs.declared.moves.Next.TheVariants.{Rest}
 use Rattle.model.specs.declared.moves.Move.{Move}
 use Rattle.model.specs.Record.{placed}
-use Rattle.model.specs.RouteLaws.{deciding}
+use Rattle.laws.specs.Bool.{deciding}
 use Rattle.model.specs.Store.{appended}
 use Rattle.model.specs.Step.{still, phased, arrival, terminate, retry}
 use Rattle.machine.specs.declared.events.Machine.{Machine}
