@@ -1,10 +1,11 @@
 -- All elements pass.
-use Rattle.std.specs.Prelude.{◌≡◌, Bool, true}
+use Rattle.std.specs.Prelude.{◌≡◌, refl, Bool, true, false, not}
 use mathlib.Core.List.{List, [], ◌∷◌, ◌++◌}
 use Prim.Native.Nat.{ℕ, zero, suc, ◌+◌}
 use Rattle.std.proofs.Common.{arith}
-use Rattle.laws.specs.Bool.{◌and◌, both, join}
+use Rattle.laws.specs.Bool.{when◌then◌else◌, ◌and◌, split, both, join}
 use Rattle.laws.specs.Rows.{span, span_more, span_none}
+use Rattle.laws.specs.First.{first}
 use Rattle.laws.specs.Shift.{remove_at}
 
 unfoldable pub every : {A : Type 0} → (A → Bool) → List A → Bool
@@ -14,6 +15,12 @@ every p (x ∷ xs) = p x and every p xs
 -- All numbers below k pass.
 abbrev pub below : ℕ → (ℕ → Bool) → Bool
 below k p = every p (span (λ n. n) 0 k)
+
+-- As a search for one that does not, with e behind it.
+pub every_then : {A : Type 0} (p : A → Bool) (e : Bool) (i : ℕ) (xs : List A) → first (λ x. not (p x)) (λ _ _. false) e i xs ≡ every p xs and e
+unfolding every first ◌and◌ when◌then◌else◌
+every_then p e i [] = refl
+every_then p e i (x ∷ xs) = split (p x) (λ h. rw h (every_then p e (i + 1) xs)) (λ h. rw h)
 
 -- After a list, and without one element.
 module _ {A : Type 0} (p : A → Bool) where

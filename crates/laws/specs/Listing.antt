@@ -1,6 +1,5 @@
 -- A list in an array of a fixed size, filled up with a default.
 use Rattle.std.specs.Prelude.{◌≡◌, set, take, drop, replicate}
-use Rattle.std.proofs.Math.Path.{refl}
 use Rattle.std.proofs.Common.{ap}
 use mathlib.Core.List.{List, [], ◌∷◌, ◌++◌}
 use Prim.Native.Nat.{ℕ, zero, suc, ◌+◌, ◌-◌, ◌≤◌, ◌<◌}

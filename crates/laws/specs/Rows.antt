@@ -1,8 +1,8 @@
 -- Rows read one by one: the list of what a reader gives for a range of places.
-use Rattle.std.specs.Prelude.{◌≡◌, List, [], ◌∷◌, get_or, length}
+use Rattle.std.specs.Prelude.{◌≡◌, List, [], ◌∷◌, get_or, length, take}
 use Rattle.std.proofs.Math.Path.{refl, ap, sym}
 use Rattle.std.proofs.Common.{◌∙◌}
-use Prim.Native.Nat.{ℕ, zero, suc, ◌+◌, ◌-◌, ◌≤◌, ◌<◌}
+use Prim.Native.Nat.{ℕ, zero, suc, ◌+◌, ◌-◌, ◌≤◌, ◌<◌, min}
 use native.Mathlib.Omega.{arith}
 use Rattle.std.proofs.Math.ListN.{get_or-eq_default}
 
@@ -57,7 +57,7 @@ module _ {A : Type 0} (f : ℕ → A) where
       let e = length_span k in
       sym (get_or-eq_default (span f 0 k) d (omega arith))
 
--- A list of length n is its n rows.
+-- The first k elements of a list of length n are its rows.
 shifted : {A : Type 0} (x d : A) (l : List A) (i k : ℕ) → rows (λ n. get_or (x ∷ l) n d) (suc i) k ≡ rows (λ n. get_or l n d) i k
 unfolding rows
 shifted x d l i zero = refl
@@ -65,6 +65,20 @@ shifted x d l i (suc k) =
     let e : suc i + 1 ≡ suc (i + 1) = omega arith in
     rw e (ap (λ r. get_or l i d ∷ r) (shifted x d l (i + 1) k))
 
+take_rows : {A : Type 0} (d : A) (l : List A) (k : ℕ) → take k l ≡ rows (λ n. get_or l n d) 0 (min (length l) k)
+unfolding rows
+take_rows d [] zero = refl
+take_rows d [] (suc k) =
+    let e : min 0 (suc k) ≡ 0 = omega arith in
+    rw e
+take_rows d (x ∷ l) zero =
+    let e : min (length (x ∷ l)) 0 ≡ 0 = omega arith in
+    rw e
+take_rows d (x ∷ l) (suc k) =
+    let e : min (suc (length l)) (suc k) ≡ suc (min (length l) k) = omega arith in
+    rw e (ap (λ r. x ∷ r) (take_rows d l k ∙ sym (shifted x d l 0 (min (length l) k))))
+
+-- A list of length n is its n rows.
 all_rows : {A : Type 0} (d : A) (l : List A) → rows (λ i. get_or l i d) 0 (length l) ≡ l
 unfolding rows
 all_rows d [] = refl
@@ -72,3 +86,9 @@ all_rows d (x ∷ l) = ap (λ r. x ∷ r) (shifted x d l 0 (length l) ∙ all_ro
 
 pub rows_all : {A : Type 0} (d : A) (l : List A) (n : ℕ) → length l ≡ n → rows (λ i. get_or l i d) 0 n ≡ l
 rows_all d l n h = rw h at (all_rows d l)
+
+pub take_span : {A : Type 0} (d : A) (l : List A) (n k : ℕ) → length l ≡ n → take k l ≡ span (λ i. get_or l i d) 0 (min n k)
+unfolding span
+take_span d l n k h =
+    let e : min n k - 0 ≡ min (length l) k = omega arith in
+    rw e (take_rows d l k)
