@@ -5,7 +5,7 @@ use Rattle.std.proofs.lemmas.Bool.{false≢true}
 use native.Mathlib.Omega.{arith}
 use Rattle.std.proofs.Math.ListN.{length}
 use Rattle.std.proofs.Math.Seq.{length-take-le}
-use Rattle.std.proofs.lemmas.List.{length-replicate}
+use Rattle.std.proofs.lemmas.List.{length-replicate, drop-replicate}
 use Rattle.laws.specs.Bool.{when◌then◌else◌, split, both}
 use Rattle.laws.specs.Rows.{span, length_span, at_span}
 use Rattle.laws.specs.Every.{every, below}
@@ -122,14 +122,9 @@ rows_fit r {used} h =
     rw (below_more used.signals store (signal_fits r) s.low (signal_fine r _ s), below_more used.nodes nodes (node_fits r) n.low (node_fine r _ n))
 
 -- ROWS READ into an array of n empty ones: the first k.
-pub drop_replicate : {A : Type 0} (d : A) (n k : ℕ) → drop k (replicate n d) ≡ replicate (n - k) d
-drop_replicate d n zero = let e : n - 0 ≡ n = omega arith in rw e
-drop_replicate d zero (suc k) = let e : 0 - suc k ≡ 0 = omega arith in rw e
-drop_replicate d (suc n) (suc k) = let e : suc n - suc k ≡ n - k = omega arith in rw e (drop_replicate d n k)
-
 pub rows_padded : {A : Type 0} (d : A) (n k : ℕ) (f : ℕ → A) {part : List A} → k ≤ n → part ≡ span f 0 (length (take k (replicate n d))) → part ++ drop k (replicate n d) ≡ padded n d (span f 0 k)
 unfolding padded
 rows_padded d n k f low e =
     let l : length (take k (replicate n d)) ≡ k = length-take-le k (replicate n d) (omega (arith, length-replicate n d)) in
     let s = length_span f k in
-    rw (e, l, s) (rw drop_replicate)
+    rw (e, l, s) (rw drop-replicate)

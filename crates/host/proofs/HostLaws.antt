@@ -1,10 +1,10 @@
 -- What a receipt tells of what was lent.
 use Rattle.std.proofs.Math.Path.{◌≡◌, sym}
-use Rattle.std.specs.Prelude.{refl, true, false, List, ◌++◌, ℕ, ◌≤◌, ◌<◌, drop, ltb, eqb, Result, Ok, Err, Some}
+use Rattle.std.specs.Prelude.{refl, true, false, List, ◌++◌, ℕ, ◌≤◌, drop, ltb, eqb, Result, Ok, Err, Some}
 use Rattle.std.proofs.Common.{◌∙◌, ap, ap₂, arith}
 use Rattle.std.proofs.Math.Bool.{not}
 use Rattle.std.proofs.Math.ListN.{length}
-use borrow.Author.Tests.{ltb-false, lt-ltb, le-ltb, eqb-true, eq-eqb, ne_eqb}
+use borrow.Author.Tests.{ltb-false, le-ltb, eqb-true, eq-eqb, ne_eqb}
 use Rattle.laws.specs.Bool.{when◌then◌else◌, ◌and◌, split, if_true, if_false}
 use Rattle.laws.specs.Splice.{splice}
 use Rattle.workflow.specs.Layout.{numbers as sheet_length}
@@ -27,26 +27,8 @@ use Rattle.host.proofs.ByCountLaws.{rows_record}
 use Rattle.host.specs.Host.{Lent, receipt, decided, answered, verdict_receipt, verdict_numbers, judged}
 use Rattle.host.specs.Receipt.{fault_number, outcome_number, by_numbers}
 
--- THE TESTS in their order. A receipt is that of the first length that isn't the layout's; and with all lengths, that of the numbers.
+-- THE TESTS in their order. With all lengths the layout's a receipt is that of the numbers.
 module _ (n : ℕ) (c r : List ℕ) (b : ℕ) where
-  pub receipt_sheet : (n ≡ sheet_length → ⊥) → layout.bad_sheet_length ≡ receipt n c r b
-  unfolding receipt when◌then◌else◌
-  receipt_sheet h = simp (ne_eqb _ _ h)
-
-  module _ (s : n ≡ sheet_length) where
-    pub receipt_call_length : (length c ≡ call_length → ⊥) → layout.bad_call_length ≡ receipt n c r b
-    unfolding receipt when◌then◌else◌
-    receipt_call_length h = simp (eq-eqb _ _ s, ne_eqb _ _ h)
-
-    module _ (k : length c ≡ call_length) where
-      pub receipt_record_length : (length r ≡ record_length → ⊥) → layout.bad_record_length ≡ receipt n c r b
-      unfolding receipt when◌then◌else◌
-      receipt_record_length h = simp (eq-eqb _ _ s, eq-eqb _ _ k, ne_eqb _ _ h)
-
-      pub receipt_room : length r ≡ record_length → b < answer_length → layout.short_buffer ≡ receipt n c r b
-      unfolding receipt when◌then◌else◌
-      receipt_room g h = simp (eq-eqb _ _ s, eq-eqb _ _ k, eq-eqb _ _ g, lt-ltb _ _ h)
-
   pub receipt_numbers : Lent n (length c) (length r) b → outcome_number (by_numbers c r) ≡ receipt n c r b
   unfolding receipt by_numbers when◌then◌else◌
   receipt_numbers l =
@@ -134,11 +116,6 @@ module _ (w : List ℕ) (n : ℕ) (c r b : List ℕ) where
   untouched fault e = sym (if_false _ _ _ (ne_eqb _ layout.written (λ z. fault_told fault (e ∙ z))))
 
 -- A VERDICT'S two numbers.
-length_verdict : (v : Verdict) → length (verdict_numbers v) ≡ verdict_length
-unfolding verdict_numbers
-length_verdict (Ok tt) = refl
-length_verdict (Err x) = refl
-
 verdict_front : (v : Verdict) (b : List ℕ) → verdict_numbers v ++ drop verdict_length b ≡ splice b 0 (verdict_numbers v)
 unfolding splice verdict_numbers
 verdict_front (Ok tt) b = refl
@@ -146,14 +123,6 @@ verdict_front (Err x) b = refl
 
 -- The tests, one by one: of a sheet's length n and the room for the two numbers.
 module _ (n room : ℕ) where
-  pub other_sheet : (n ≡ sheet_length → ⊥) → layout.bad_sheet_length ≡ verdict_receipt n room
-  unfolding verdict_receipt when◌then◌else◌
-  other_sheet h = simp (ne_eqb _ _ h)
-
-  pub no_room : n ≡ sheet_length → room < verdict_length → layout.short_buffer ≡ verdict_receipt n room
-  unfolding verdict_receipt when◌then◌else◌
-  no_room h g = simp (eq-eqb _ _ h, lt-ltb _ _ g)
-
   pub has_both : n ≡ sheet_length → verdict_length ≤ room → layout.written ≡ verdict_receipt n room
   unfolding verdict_receipt when◌then◌else◌
   has_both h g = simp (eq-eqb _ _ h, le-ltb _ _ g)
@@ -164,7 +133,3 @@ module _ (w : List ℕ) (n : ℕ) (k : Ceilings) (b : List ℕ) where
   judged_verdict {v} {l} p q r room e =
       let told : judged w n k b ≡ splice b 0 (verdict_numbers (verdict (workflow w) k)) = if_true _ _ _ (eq-eqb _ layout.written e) in
       rw (r, q, p) (verdict_front (verdict (workflow w) k) b ∙ sym told)
-
-  pub unjudged : (verdict_receipt n (length b) ≡ layout.written → ⊥) → b ≡ judged w n k b
-  unfolding judged
-  unjudged e = sym (if_false _ _ _ (ne_eqb _ layout.written e))

@@ -1,12 +1,10 @@
 -- How many numbers each part of an answer has, and parts written one behind the other.
 use Rattle.std.specs.Prelude.{◌≡◌, refl, ℕ, ◌+◌, ◌*◌, ◌≤◌, length, get_or, Option, Some, None}
-use Rattle.std.proofs.Common.{◌∙◌, ap, arith, length-append}
-use mathlib.Core.List.{List, [], ◌∷◌, ◌++◌, flat_map, append_assoc, append-nil}
+use Rattle.std.proofs.Common.{◌∙◌, arith, length-append}
+use mathlib.Core.List.{List, [], ◌++◌, flat_map, append_assoc, append-nil}
 use Rattle.std.proofs.lemmas.List.{get_or_at}
-use Rattle.laws.specs.Rows.{rows, rows_all}
 use Rattle.laws.specs.Splice.{splice, splice_more, length_flat}
 use Rattle.model.specs.declared.ErrorInfo.{ErrorInfo}
-use Rattle.model.specs.declared.NodeResult.{NodeResult}
 use Rattle.model.specs.declared.State.{State}
 use Rattle.model.specs.declared.answer.Order.{Order}
 use Rattle.model.specs.declared.answer.Answer.{Answer}
@@ -36,11 +34,6 @@ unfolding answer_numbers
 length_answer (Answer.Next o k) = rw (length_order o)
 length_answer (Answer.Wants n f b) = refl
 length_answer (Answer.Refused k i) = refl
-
--- A result's numbers from those of its output.
-pub result_row : (x : NodeResult) (o : List ℕ) → o ≡ output_numbers x.output → (x.visit ∷ x.outcome ∷ get_or o 0 0 ∷ get_or o 1 0 ∷ get_or o 2 0 ∷ get_or o 3 0 ∷ []) ≡ result_numbers x
-unfolding result_numbers rows
-result_row x o e = ap (λ (r : List ℕ). x.visit ∷ x.outcome ∷ r) (rows_all 0 o 4 (rw e (length_output x.output)) ∙ e)
 
 pub length_scalars : (s : State) → length (scalar_numbers s) ≡ record_error
 unfolding scalar_numbers

@@ -8,12 +8,11 @@ use Prim.Native.Nat.{ℕ, zero, suc, ◌+◌, ◌*◌, ◌-◌, ◌≤◌, ◌<�
 use native.Mathlib.Omega.{arith}
 use Rattle.std.proofs.Math.Nat.{mul-le-mul_left}
 use Rattle.std.proofs.Math.ListN.{length, take, drop, length-append, get_or-append}
-use Rattle.std.proofs.lemmas.List.{length-map, length-replicate, replicate-append-replicate, drop-append-le}
+use Rattle.std.proofs.lemmas.List.{length-map, length-replicate, replicate-append-replicate, drop-append-le, drop-replicate}
 use Rattle.std.proofs.Math.Seq.{length-take-le, drop-append-add, drop-drop}
 use borrow.Rule.Slice.PartMut.{put_mid}
 use Rattle.std.specs.Int.Bits.{bit_or}
 use Rattle.std.specs.List.{fold}
-use Rattle.laws.specs.Bool.{when◌then◌else◌}
 use Rattle.laws.specs.Splice.{splice, splice_more, length_splice, length_flat}
 use Rattle.laws.specs.Listing.{padded}
 use Rattle.model.specs.declared.State.{State}
@@ -25,14 +24,11 @@ use Rattle.kernel.specs.Call.{Answer, next, wants, refused}
 use Rattle.kernel.specs.Listed.{listed}
 use Rattle.kernel.specs.Decision.{decision_of}
 use Rattle.host.specs.Layout as layout
-use mir.Val.{bool_byte}
-use Rattle.std.specs.Prelude.{Bool}
-use Rattle.host.specs.Write.{marked, signal_numbers, visits_numbers, streak_numbers, result_numbers, note_row, ending_row, state_numbers, record_numbers, decision_numbers}
+use Rattle.host.specs.Write.{signal_numbers, visits_numbers, streak_numbers, result_numbers, note_row, ending_row, state_numbers, record_numbers, decision_numbers}
 use Rattle.host.specs.RowLaws.{or_both}
 use Rattle.host.proofs.WriteLaws.{Whole, length_answer, length_note_row, length_ending_row, length_record}
 use Rattle.host.proofs.Lists.{padded_past, getD_replicate_same}
 use Rattle.host.specs.ByCount.{Zeros}
-use Rattle.host.proofs.ByCountLaws.{drop_replicate}
 use Rattle.host.specs.WriteRows.{EmptyPast, Leading, front_numbers, is_refused, Counted}
 
 abbrev zeros : ℕ → List ℕ
@@ -102,12 +98,6 @@ counted_written {k = k} same past e = record { rows = k; past = rw same past; is
 pub zeroed : (n : ℕ) (out part : List ℕ) → n ≤ length out → part ≡ replicate (length (take n out)) 0 → part ++ drop n out ≡ splice out 0 (zeros n)
 unfolding splice
 zeroed n out part room e = let z : 0 + n ≡ n = omega arith in rw (e, length-take-le n out room, length_zeros n, z)
-
--- a mark as a number
-pub marked_is : (b : Bool) → bool_byte b ≡ marked b
-unfolding when◌then◌else◌
-marked_is true = refl
-marked_is false = refl
 
 -- The numbers of rows that are empty from a count on: those up to it, and zeros.
 module _ {A : Type 0} (f : A → List ℕ) (w : ℕ) (d : A) (blank : f d ≡ zeros w) where
@@ -203,7 +193,7 @@ module _ {l₀ l ys : List ℕ} {at k n : ℕ} (inv : WroteIn l₀ at ys k n l) 
       let z : length (zs ++ zeros m) ≡ j + m = rw length-append (omega arith) in
       let more = splice_more l₀ at ys (zs ++ zeros m) p q (omega arith) in
       record {
-        so_far = e ∙ rw same (over ∙ rw (drop_replicate, d) (more ∙ ap (splice l₀ at) (sym (append_assoc ys zs (zeros m)))));
+        so_far = e ∙ rw same (over ∙ rw (drop-replicate, d) (more ∙ ap (splice l₀ at) (sym (append_assoc ys zs (zeros m)))));
         size = rw length-append (omega arith);
         room = omega arith;
       }

@@ -1,7 +1,10 @@
 -- Laws of rows: how many numbers each has, and which are the empty ones, by their digits.
-use Rattle.std.specs.Prelude.{◌≡◌, refl, List, Option, Some, None, ℕ, length, bit_or}
+use Rattle.std.specs.Prelude.{◌≡◌, refl, Bool, true, false, List, [], ◌∷◌, Option, Some, None, ℕ, length, get_or, bit_or}
 use Rattle.std.proofs.lemmas.List.{length-replicate}
-use Rattle.std.proofs.Common.{arith}
+use Rattle.std.proofs.Common.{arith, ◌∙◌, ap}
+use mir.Val.{bool_byte}
+use Rattle.laws.specs.Bool.{when◌then◌else◌}
+use Rattle.laws.specs.Rows.{rows, rows_all}
 use Rattle.std.specs.Int.Bits.{or_add_and}
 use Rattle.std.proofs.lemmas.Nat.{and_le_l, and_le_r}
 use Rattle.model.specs.declared.Output.{Output}
@@ -15,7 +18,7 @@ use Rattle.model.specs.declared.answer.Ending.{Ending}
 use Rattle.model.specs.Answers.{output_numbers, noted_numbers, note_numbers, ending_numbers}
 use Rattle.model.specs.Record.{no_signal, no_visits, no_streak, no_node_result}
 use Rattle.host.specs.Layout.{signal_width, streak_width, result_width, note_width, ending_width, output_width}
-use Rattle.host.specs.Write.{option_numbers, signal_numbers, visits_numbers, streak_numbers, result_numbers, note_row, ending_row}
+use Rattle.host.specs.Write.{marked, option_numbers, signal_numbers, visits_numbers, streak_numbers, result_numbers, note_row, ending_row}
 use Rattle.host.specs.WriteRows.{signal_digits, visits_digits, streak_digits, output_digits, result_digits}
 
 -- A row that may be absent.
@@ -44,6 +47,11 @@ length_streak x = refl
 pub length_result : (x : NodeResult) → length (result_numbers x) ≡ result_width
 unfolding result_numbers
 length_result x = rw (length_output x.output)
+
+-- A result's numbers from those of its output.
+pub result_row : (x : NodeResult) (o : List ℕ) → o ≡ output_numbers x.output → (x.visit ∷ x.outcome ∷ get_or o 0 0 ∷ get_or o 1 0 ∷ get_or o 2 0 ∷ get_or o 3 0 ∷ []) ≡ result_numbers x
+unfolding result_numbers rows
+result_row x o e = ap (λ (r : List ℕ). x.visit ∷ x.outcome ∷ r) (rows_all 0 o 4 (rw e (length_output x.output)) ∙ e)
 
 length_noted : (node : ℕ) (x : Noted) → length (noted_numbers node x) ≡ note_width
 length_noted node (Noted.Ignored kind) = refl
@@ -107,3 +115,9 @@ result_is x e =
     let b = or_both x.visit x.outcome a.0 in
     let z : record { visit = x.visit; outcome = x.outcome; output = x.output } ≡ no_node_result = rw (b.0, b.1, output_is x.output a.1) in
     z
+
+-- a mark as a number
+pub marked_is : (b : Bool) → bool_byte b ≡ marked b
+unfolding when◌then◌else◌
+marked_is true = refl
+marked_is false = refl

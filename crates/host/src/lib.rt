@@ -23,7 +23,7 @@ use workflow::capped;
 use workflow::layout::{NODE_COUNT, NUMBERS};
 
 // Why what is lent gets no answer.
-// Kept: the numbers beside it (layout.rt), since the C header is made from them.
+// Kept: the numbers beside it (layout.rt), since the C header is made from them (a).
 #[derive(Clone, Copy, PartialEq, Eq, Debug)]
 enum Fault {
     ShortBuffer,
@@ -76,6 +76,7 @@ fn by_numbers(
 }
 
 // The record that goes with a call, if one does.
+// Kept: a mark, since a record is lent with every call, and the call says whether it counts (a).
 fn read_given(given: &[u64; layout::RECORD], has_record: bool, used: Used) -> Option<State>
     requires { UsedRows has_record given.now used }
     ensures { result ≡ given_record has_record (record_of given.now) }
@@ -87,6 +88,7 @@ fn read_given(given: &[u64; layout::RECORD], has_record: bool, used: Used) -> Op
 }
 
 // One call: the lengths are tested before a number is read.
+#[tactic(auto, using(model::specs::RouteLaws::deciding), unfolding(crate::specs::Host::receipt, crate::specs::Host::answered))]
 fn answer_call(
     sheet: &[u32; NUMBERS],
     sheet_len: usize,
@@ -151,6 +153,7 @@ fn verdict_numbers(verdict: Result<(), Broken>) -> [u32; layout::VERDICT]
 }
 
 // The verdict on a sheet: the refusal's number and its item, or 0 and 0.
+#[tactic(auto, using(model::specs::RouteLaws::deciding), unfolding(crate::specs::Host::verdict_receipt, crate::specs::Host::judged))]
 pub fn kuxhoveza_verdict(
     sheet: &[u32; NUMBERS],
     sheet_len: usize,

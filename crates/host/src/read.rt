@@ -18,6 +18,7 @@ use model::{
 
 // What a field's number must be below: any number; the name of a node, an action, a signal or an outcome; the code of an
 // error; a mark.
+// Kept: bounds of fields, and no kinds of anything (d).
 const NUMBER: u64 = 0x1_0000_0000;
 
 const NAME: u64 = 256;
@@ -26,7 +27,7 @@ const CODE: u64 = 65536;
 
 const MARK: u64 = 2;
 
-// Kept: std has no proved method that takes the lowest 32 bits.
+// Kept: what `as` takes must fit, so the lowest 32 bits are a remainder (d).
 fn narrow(x: u64) -> u32
     ensures { result ≡ narrow x }
 {
@@ -34,7 +35,7 @@ fn narrow(x: u64) -> u32
 }
 
 // The number at a place.
-// Kept: a slice and a place, as in `xs[place]`; what it reads has no part of its own.
+// Kept: a slice and a place, as in `xs[place]`: one number of a layout is no part of it (d).
 pub(crate) fn number_at(xs: &[u64], place: usize) -> u32
     requires { place < length xs.now }
     ensures { result ≡ narrow (at xs.now place) }
@@ -52,7 +53,7 @@ fn error(code: u64, node: u64, detail: u64) -> ErrorInfo
     }
 }
 
-// Kept: four numbers by name, here and below; an array of them would be taken apart by index at once.
+// Kept: four numbers by name, here and below; an array of them would be taken apart by index at once (d).
 pub(crate) fn output(tag: u64, a: u64, b: u64, c: u64) -> Output
     ensures { result ≡ output_of tag a b c }
 {
@@ -90,6 +91,7 @@ fn blank(xs: &[u64]) -> bool
 }
 
 // By the record's count, where all that follows is zero; else all.
+// Kept: casts, since there is no `From` between u64 and usize (d).
 fn signal_rows(xs: &[u64; layout::RECORD]) -> usize
     ensures { SignalsPast xs.now result }
 {
@@ -101,6 +103,7 @@ fn signal_rows(xs: &[u64; layout::RECORD]) -> usize
 }
 
 // By the sheet's count.
+// Kept: the count is of the sheet's nodes and no part of the record (d).
 fn node_rows(xs: &[u64; layout::RECORD], rows: usize) -> usize
     requires { rows ≤ nodes }
     ensures { NodesPast xs.now result }
@@ -115,7 +118,7 @@ fn node_rows(xs: &[u64; layout::RECORD], rows: usize) -> usize
 }
 
 // None of a record that goes with no call.
-// Kept: a mark, since it is a parameter of a public function.
+// Kept: a mark, since a record is lent with every call; and the sheet's count, as above (a).
 pub fn used_rows(xs: &[u64; layout::RECORD], has_record: bool, rows: usize) -> Used
     requires { rows ≤ nodes }
     ensures { UsedRows has_record xs.now result }
@@ -232,6 +235,7 @@ fn event(c: &[u64; layout::CALL]) -> Event
     }
 }
 
+// Kept: it reads as rows of a record do (rows.rt), into fields with other names (d).
 fn mapping(c: &[u64; layout::CALL], i: usize) -> Mapping
     requires { i < mappings }
     ensures { result ≡ mapping_of c.now i }
@@ -347,6 +351,7 @@ fn head_fits(xs: &[u64; layout::RECORD]) -> bool
         )
 }
 
+// Kept: `signal_fits` and `mapping_fits` test other fields of other rows (d).
 fn signal_fits(xs: &[u64; layout::RECORD], i: usize) -> bool
     requires { i < store }
     ensures { result ≡ signal_fits xs.now i }

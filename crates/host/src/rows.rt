@@ -1,5 +1,5 @@
 // The rows of a run record and of an answer: how each stands as numbers (docs/NUMBERS.md).
-#![tactic(auto, unfolding(crate::specs::Read::signal_of, crate::specs::Read::visits_of, crate::specs::Read::streak_of, crate::specs::Read::result_of, crate::specs::Write::signal_numbers, crate::specs::Write::streak_numbers, crate::specs::WriteRows::signal_digits, crate::specs::WriteRows::visits_digits, crate::specs::WriteRows::streak_digits, crate::specs::WriteRows::result_digits))]
+#![tactic(auto, using(laws::specs::Splice::splice_one, crate::specs::RowLaws::result_row), unfolding(crate::specs::Read::signal_of, crate::specs::Read::visits_of, crate::specs::Read::streak_of, crate::specs::Read::result_of, crate::specs::Write::signal_numbers, crate::specs::Write::visits_numbers, crate::specs::Write::streak_numbers, crate::specs::WriteRows::signal_digits, crate::specs::WriteRows::visits_digits, crate::specs::WriteRows::streak_digits, crate::specs::WriteRows::result_digits))]
 
 ghost use Rattle.std.specs.Prelude.{◌≡◌, List, ℕ, ◌+◌, ◌*◌, ◌≤◌, ◌<◌, length};
 ghost use mathlib.Core.List.{flat_map};
@@ -75,6 +75,7 @@ impl Row for BufferedSignal {
     }
 }
 
+// Kept: `read` and `digits` name the fields of each type in turn (d).
 impl RecordRow for BufferedSignal {
     ghost room = { store };
 
@@ -290,6 +291,7 @@ pub fn read_rows<T: RecordRow>(rows: &mut [T], xs: &[u64; layout::RECORD])
 
 // The rows that are written: those up to a count where the digits of all others are 0, else all. One pass without a test, so
 // that the compiler makes it a vector loop.
+// Kept: rows and a count, since what is given back is cut there or whole (d).
 pub fn leading<T: RecordRow>(rows: &[T], count: usize) -> &[T]
     requires { count ≤ length rows.now }
     ensures { Leading T.none rows.now result.now }

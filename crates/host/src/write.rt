@@ -1,5 +1,5 @@
 // A run record and an answer into a lent buffer (docs/NUMBERS.md).
-#![tactic(auto, unfolding(crate::specs::Write::scalar_numbers))]
+#![tactic(auto, using(crate::specs::RowLaws::marked_is), unfolding(crate::specs::Write::scalar_numbers, crate::specs::Write::event_numbers))]
 
 ghost use Rattle.std.specs.Prelude.{◌≡◌, ◌+◌, ◌≤◌, ◌++◌, length, replicate};
 ghost use Rattle.laws.specs.Splice.{splice};
@@ -16,6 +16,7 @@ use model::answer::{Answer, Ending, Note};
 use model::event::Event;
 use workflow::capped;
 
+#[tactic(auto, unfolding(laws::specs::Splice::splice))]
 pub(crate) fn write(out: &mut [u64], xs: &[u64])
     requires { length xs.now ≤ length out.old }
     ensures { out.new ≡ splice out.old 0 xs.now }
@@ -59,6 +60,7 @@ fn write_head(out: &mut [u64], s: &State)
 }
 
 // A record over zeros, with the sheet's count of nodes.
+// Kept: the count is of the sheet's nodes, here and below, and says nothing of the buffer (d).
 fn write_record(out: &mut [u64], s: &State, count: usize)
     requires { (record_length ≤ length out.old) × (count ≤ nodes) × Zeros out.old 0 record_length }
     ensures { out.new ≡ splice out.old 0 (record_numbers s.now) }

@@ -210,7 +210,7 @@ impl Run<'_> {
         self.go(rt, "start", self.event(code::RUN_STARTED))
     }
 
-    // Kept: `success` and `verdict` set other fields of their events; what they share is `event` and `go`.
+    // Kept: `success` and `verdict` set other fields of their events; what they share is `event` and `go` (d).
     // The panel's shot and its correction succeeded.
     fn success(&mut self, rt: &impl Print, what: &str, visit: u32) -> io::Result<()> {
         let event = Event {

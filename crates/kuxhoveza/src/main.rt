@@ -30,6 +30,7 @@ impl fmt::Display for Row<'_> {
 }
 
 // As many rows as a count says, or all where there are fewer.
+// Kept: rows and their count stand apart in the layout (a).
 fn first<const N: usize>(rows: &[[u64; N]], count: u64) -> &[[u64; N]] {
     &rows[..rows.len().min(count as usize)]
 }
@@ -159,6 +160,7 @@ fn decided(bytes: &[u8]) -> Option<[u64; ANSWER]> {
 
 fn main(rt: HostRuntime) -> io::Result<()> {
     let mut call = Vec::new(rt.alloc());
+    // Kept: a cast, since there is no `From` from usize to u64 (d).
     rt.stdin().take(ENOUGH as u64).read_to_end(&mut call)?;
     let mut out = BufWriter::new(rt.alloc(), rt.stdout())?;
     match decided(&call) {

@@ -7,6 +7,8 @@ use std::alloc::{AllocError, Global};
 // More bytes than a call has, or an answer.
 const ENOUGH: usize = 65536;
 
+// What an exported function returns is two numbers: the lower half and the upper.
+// Kept: a bound, which no enum names (d).
 const HALF: u64 = 0x1_0000_0000;
 
 // What a call in bytes shows.
@@ -33,7 +35,7 @@ impl From<AllocError> for Unwritten {
 // A number as LEB128.
 fn number(out: &mut Vec<u8>, n: u64) -> Result<(), AllocError> {
     let mut rest = n;
-    // Kept: this writer stands apart from crate codec, whose answers it judges; it counts no index.
+    // Kept: groups of a number, which the loop takes off until none is left; it counts no index (d).
     while 128 <= rest {
         out.push((rest % 128) as u8 + 128)?;
         rest /= 128;
@@ -42,6 +44,7 @@ fn number(out: &mut Vec<u8>, n: u64) -> Result<(), AllocError> {
     Ok(())
 }
 
+// Kept: `numbers` and `rows` are one loop each, over items of another kind (d).
 fn numbers(out: &mut Vec<u8>, xs: &[u64]) -> Result<(), AllocError> {
     for x in xs {
         number(out, *x)?;
@@ -50,6 +53,7 @@ fn numbers(out: &mut Vec<u8>, xs: &[u64]) -> Result<(), AllocError> {
 }
 
 // As many rows as a count says; refused where there are fewer.
+// Kept: rows and their count stand apart in the layout (a).
 fn first<const N: usize>(rows: &[[u64; N]], count: u64) -> Result<&[[u64; N]], Unwritten> {
     rows.get(..count as usize).ok_or(Unwritten::Refused)
 }

@@ -20,7 +20,7 @@ fn worked_out() -> [u64; 256]
     ensures { result ≡ waits }
 {
     let mut list = [640u64; 256];
-    // Kept: an entry is worked out from the one before it, so both are named by an index.
+    // Kept: an entry is worked out from the one before it, so both are named by an index (d).
     for n in 1..256 {
         list[n] = next_wait(list[n - 1]);
     }

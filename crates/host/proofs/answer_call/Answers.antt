@@ -1,40 +1,11 @@
 use Rattle.std.proofs.Common.{◌≡◌, ◌∙◌, sym, ap, arith, length, Err}
 use Rattle.std.proofs.lemmas.Result.{err_from_is_err_and}
-use Rattle.host.specs.declared.Fault.{Fault}
 use Rattle.host.specs.Host.{Lent, receipt}
 use Rattle.host.specs.Receipt.{fault_number, outcome_number}
 use Rattle.host.proofs.AnswerBack.{full}
 use Rattle.host.proofs.WriteRowsLaws.{counted}
-use Rattle.host.proofs.HostLaws.{receipt_sheet, receipt_call_length, receipt_record_length, receipt_room, receipt_told, fault_told, made, left, untouched}
+use Rattle.host.proofs.HostLaws.{receipt_told, fault_told, made, left, untouched}
 use Rattle.host.proofs.answer_call.Goals as goal
-
-pub returns-then-sheet_len-ne-NUMBERS-clause-value : goal.returns-then-sheet_len-ne-NUMBERS-clause-value
-returns-then-sheet_len-ne-NUMBERS-clause-value c = receipt_sheet _ _ _ _ c.if-sheet_len-ne-NUMBERS.true
-
-pub returns-then-sheet_len-ne-NUMBERS-clause-answer_after : goal.returns-then-sheet_len-ne-NUMBERS-clause-answer_after
-returns-then-sheet_len-ne-NUMBERS-clause-answer_after c = untouched c.args.sheet.now _ _ _ _ Fault.SheetLength (receipt_sheet _ _ _ _ c.if-sheet_len-ne-NUMBERS.true)
-
-pub returns-in_default-clause-value : goal.returns-in_default-clause-value
-returns-in_default-clause-value c = receipt_call_length _ _ _ _ c.if-sheet_len-ne-NUMBERS.false c.in_default.ensures.cases
-
-pub returns-in_default-clause-answer_after : goal.returns-in_default-clause-answer_after
-returns-in_default-clause-answer_after c = untouched c.args.sheet.now _ _ _ _ Fault.CallLength (receipt_call_length _ _ _ _ c.if-sheet_len-ne-NUMBERS.false c.in_default.ensures.cases)
-
-pub returns-in_default-as_array-clause-value : goal.returns-in_default-as_array-clause-value
-returns-in_default-as_array-clause-value c = receipt_record_length _ _ _ _ c.if-sheet_len-ne-NUMBERS.false c.in-Some.ensures.cases.long c.in_default-as_array.ensures.cases
-
-pub returns-in_default-as_array-clause-answer_after : goal.returns-in_default-as_array-clause-answer_after
-returns-in_default-as_array-clause-answer_after c =
-    untouched c.args.sheet.now _ _ _ _ Fault.RecordLength (receipt_record_length _ _ _ _ c.if-sheet_len-ne-NUMBERS.false c.in-Some.ensures.cases.long c.in_default-as_array.ensures.cases)
-
-pub returns-then-answer-lt-ANSWER-clause-value : goal.returns-then-answer-lt-ANSWER-clause-value
-returns-then-answer-lt-ANSWER-clause-value c =
-    receipt_room _ _ _ _ c.if-sheet_len-ne-NUMBERS.false c.in-Some.ensures.cases.long c.in-Some-as_array.ensures.cases.long c.if-answer-lt-ANSWER.true
-
-pub returns-then-answer-lt-ANSWER-clause-answer_after : goal.returns-then-answer-lt-ANSWER-clause-answer_after
-returns-then-answer-lt-ANSWER-clause-answer_after c =
-    untouched c.args.sheet.now _ _ _ _ Fault.ShortBuffer
-    (receipt_room _ _ _ _ c.if-sheet_len-ne-NUMBERS.false c.in-Some.ensures.cases.long c.in-Some-as_array.ensures.cases.long c.if-answer-lt-ANSWER.true)
 
 pub returns-in_err-by_numbers : goal.returns-in_err-by_numbers
 returns-in_err-by_numbers c =

@@ -1,4 +1,3 @@
-use Rattle.model.specs.Record.{no_signal, no_visits, no_streak, no_node_result}
 use Rattle.host.specs.Layout.{store, nodes}
 use Rattle.host.specs.Read.{signal_of, visits_of, streak_of, result_of, record_of}
 use Rattle.host.specs.ByCount.{record_rows}
