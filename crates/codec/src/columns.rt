@@ -7,8 +7,8 @@ ghost use Rattle.codec.specs.Stored.{place_of, Stored, ZeroFrom};
 
 use crate::numbers::{numbers_size, numbers_zero, read_numbers, write_numbers};
 
-// Kept: the numbers and the plan of their columns stand beside one another, since the plan is worked out anew for each call; a struct
-// of both would be made in each call and taken apart in it (d).
+// Kept: the numbers and the plan of their columns stand beside one another, since the plan is worked out anew for each call. With a struct
+// `columns_tidy(&w[HEAD..], &plan(w))` is `Columns { numbers: &w[HEAD..], plan: &plan(w) }.tidy()`, and its room is proved there as it is now (d).
 
 // How many slots a column has, and how many of them are used.
 #[derive(Clone, Copy)]
@@ -18,6 +18,7 @@ pub struct Column {
 }
 
 // Columns from bytes into an array that is zero.
+// Kept: it is zero before and not behind, so its type can't say so, here and in slots (d).
 pub fn read_columns(bytes: &[u8], start: usize, out: &mut [u32], plan: &[Column]) -> Option<usize>
     requires { (total plan.now ≤ length out.old) × ZeroFrom 0 out.old }
     ensures value { result ≡ place_of ((columns (2 ^ 32) plan.now).read bytes.now start) }

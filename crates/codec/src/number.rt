@@ -18,6 +18,7 @@ pub struct Number {
 // Kept: bytes and a place, here and in what reads and writes below: document 01's reader of a slice and a position (a).
 
 // The groups behind a first one whose seven bits are low. None: the bytes are bad.
+// Kept: a loop with early answers, since value, scale and place go on together, and a byte that is last, bad or lacking ends them (d).
 fn following(bytes: &[u8], start: usize, low: u64) -> Option<Number>
     requires { low < 128 }
     ensures { result ≡ number_of (followed low bytes.now start) }
@@ -41,13 +42,10 @@ fn following(bytes: &[u8], start: usize, low: u64) -> Option<Number>
         at += 1;
     }
     let last = *bytes.get(at)?;
-    if last == 1 {
-        return Some(Number {
-            value: value + scale,
-            next: at + 1,
-        });
-    }
-    None
+    (last == 1).then_some(Number {
+        value: value + scale,
+        next: at + 1,
+    })
 }
 
 // The number at a place.

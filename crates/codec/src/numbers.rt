@@ -23,6 +23,8 @@ pub fn read_numbers<T: Unsigned>(bytes: &[u8], start: usize, out: &mut [T]) -> O
 }
 
 // How many bytes the numbers take.
+// Kept: the bound stands where sizes are added up, here and in columns and slots: reading, tidying and writing need none, and a type with it
+// would ask it of them too (d).
 pub fn numbers_size<T: Unsigned>(xs: &[T]) -> usize
     requires { length xs.now ≤ 65536 }
     ensures { result ≡ length (bytes_of (T.as_numbers xs.now)) }

@@ -16,6 +16,8 @@ pub struct Slot {
     pub after: usize,
 }
 
+// Kept: how many numbers a slot has, in each method below. With a struct `one.size(&xs[first..end])` is `One { slot: one, numbers:
+// &xs[first..end] }.size()`, and the length is proved there as it is now (d).
 impl Slot {
     // Where the slot that begins at a place ends.
     fn end(self, first: usize) -> usize
@@ -77,8 +79,9 @@ impl Slot {
     }
 }
 
-// Kept: k stands beside the numbers here and below, since a caller's may be more than those of k slots (d). What is required of both
-// differs from function to function, so a type of both would have only the bound that each function has (d).
+// Kept: k and one stand beside the numbers here and below, since a caller's may be more than those of k slots. With a struct
+// `slots_tidy(&r[place..], STREAK, NODES)` is `Slots { numbers: &r[place..], one: STREAK, k: NODES }.tidy()`, in each of six calls, and the
+// room is proved there as it is now (d).
 
 // Slots, k of them, from bytes into an array that is zero.
 pub fn read_slots(bytes: &[u8], start: usize, out: &mut [u64], one: Slot, k: usize) -> Option<usize>

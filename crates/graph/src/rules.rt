@@ -199,6 +199,7 @@ fn action_verdict(w: &[u32; NUMBERS], c: Ceilings, action: u32, rows: Rows) -> R
 }
 
 impl<'a> Formed<'a> {
+    // Kept: a walk beside that of lowest_breaking, since an action breaks one of two rules, and a node the rule that is asked (d).
     pub fn actions_verdict(&self, c: Ceilings) -> Result<(), Broken>
         ensures { result ≡ actions_verdict (workflow self.now.sheet.now) c }
     {

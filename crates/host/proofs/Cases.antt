@@ -124,23 +124,8 @@ unfolding kept_of when◌then◌else◌
 kept_read nothing = tt
 kept_read (error {a} {b} {c} f g h) = error_read a b c f g h
 
--- An output or a kept error that fits: its numbers fit, and are read as it.
-error_back : (x : ErrorInfo) → ErrorFits x → error_of x.code x.node x.detail ≡ x
-unfolding error_of
-error_back x f = rw (code_small x.code f.code, name_small x.node f.node, small x.detail f.detail)
-
+-- An output or a kept error that fits: its numbers fit.
 module _ (rest : List ℕ) where
-  pub output_back : (x : Output) → OutputFits x → output_of (at (output_numbers x ++ rest) 0) (at (output_numbers x ++ rest) 1) (at (output_numbers x ++ rest) 2) (at (output_numbers x ++ rest) 3) ≡ x
-  unfolding output_of output_numbers when◌then◌else◌
-  output_back Output.Nothing f = refl
-  output_back (Output.Handle x) f = rw (small x f)
-  output_back (Output.Error e) f = rw (error_back e f)
-
-  pub kept_back : (x : Option ErrorInfo) → KeptFits x → kept_of (at (kept_numbers x ++ rest) 0) (at (kept_numbers x ++ rest) 1) (at (kept_numbers x ++ rest) 2) (at (kept_numbers x ++ rest) 3) ≡ x
-  unfolding kept_of kept_numbers when◌then◌else◌
-  kept_back None f = refl
-  kept_back (Some e) f = rw (error_back e f)
-
   pub output_fit : (x : Output) → OutputFits x → output_fits (at (output_numbers x ++ rest) 0) (at (output_numbers x ++ rest) 1) (at (output_numbers x ++ rest) 2) (at (output_numbers x ++ rest) 3) ≡ true
   unfolding output_fits output_numbers when◌then◌else◌
   output_fit Output.Nothing f = refl

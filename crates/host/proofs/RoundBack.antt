@@ -5,34 +5,19 @@ use Rattle.std.proofs.Math.Bool.{true}
 use mathlib.Core.List.{List, [], ◌∷◌, ◌++◌, flat_map, append_assoc, append-nil}
 use Rattle.std.proofs.Math.ListN.{get_or}
 use Rattle.laws.specs.In.{at_below}
-use Rattle.model.specs.declared.BufferedSignal.{BufferedSignal}
 use Rattle.model.specs.declared.Visits.{Visits}
-use Rattle.model.specs.declared.Streak.{Streak}
-use Rattle.model.specs.declared.NodeResult.{NodeResult}
-use Rattle.model.specs.declared.Output.{Output}
 use Rattle.model.specs.declared.State.{State}
 use Rattle.model.specs.Answers.{output_numbers, kept_numbers}
+use Rattle.model.specs.Record.{no_signal, no_visits, no_streak, no_node_result}
 use Rattle.host.specs.Layout as layout
 use Rattle.host.specs.Layout.{store, nodes, signal_width, streak_width, result_width, signal_place, visits_place, streak_place, result_place, record_signals, record_visits, record_streaks, record_results, record_length}
-use Rattle.host.specs.Read.{at, narrow, signal_of, visits_of, streak_of, result_of, position_of, invocation_of, run_result_of, record_of, head_fields, signal_fields, node_fields, output_of, output_fits, kept_of, kept_fits, head_fits, signal_fits, node_fits, record_fits}
+use Rattle.host.specs.Read.{at, record_of, head_fields, signal_fields, node_fields, output_fits, kept_fits, head_fits, signal_fits, node_fits, record_fits}
 use Rattle.host.specs.Write.{signal_numbers, visits_numbers, streak_numbers, result_numbers, scalar_numbers, head_numbers, record_numbers}
 use Rattle.host.proofs.WriteLaws.{Whole, flat_size, length_output, length_kept, length_scalars, length_head, length_signal, length_visits, length_streak, length_result, length_record}
 use Rattle.host.specs.Fits.{Number, SignalFits, StreakFits, ResultFits, Fits}
-use Rattle.host.proofs.Lists.{all_at, span_list, row_at}
-use Rattle.host.proofs.Cases.{of_both, small, name_small, below_fields, output_back, kept_back, output_fit, kept_fit}
-
--- Values for places past an array's end.
-no_signal : BufferedSignal
-no_signal = record { sequence = 0; event_id = 0; signal = 0; outcome = 0; «data» = 0 }
-
-no_visits : Visits
-no_visits = record { count = 0 }
-
-no_streak : Streak
-no_streak = record { outcome = 0; count = 0 }
-
-no_result : NodeResult
-no_result = record { visit = 0; outcome = 0; output = Output.Nothing }
+use Rattle.host.proofs.Lists.{all_at, row_at}
+use Rattle.host.proofs.Cases.{of_both, below_fields, output_fit, kept_fit}
+use Rattle.host.proofs.RecordSame.{record_back_whole}
 
 module _ (s : State) (f : Fits s) where
   whole : Whole s
@@ -113,13 +98,13 @@ module _ (s : State) (f : Fits s) where
   before_results : length (head_numbers s ++ flat_map signal_numbers s.signals ++ flat_map visits_numbers s.visits ++ flat_map streak_numbers s.streaks) ≡ record_results
   before_results = let a = before_streaks in let b = flat_size streak_numbers nodes length_streak s.streaks f.streaks_long in rw (length-append, a, b)
 
-  result_at : (i : ℕ) → i < nodes → (j p : ℕ) → j < result_width → p ≡ result_place i + j → at (record_numbers s) p ≡ at (result_numbers (get_or s.results i no_result)) j
+  result_at : (i : ℕ) → i < nodes → (j p : ℕ) → j < result_width → p ≡ result_place i + j → at (record_numbers s) p ≡ at (result_numbers (get_or s.results i no_node_result)) j
   unfolding record_numbers
   result_at i h j p g place =
       let n = f.results_long in
       let front = head_numbers s ++ flat_map signal_numbers s.signals ++ flat_map visits_numbers s.visits ++ flat_map streak_numbers s.streaks in
       let e : record_numbers s ≡ front ++ (flat_map result_numbers s.results ++ []) = simp append-nil in
-      rw e (row_at result_numbers result_width length_result [] no_result j g front record_results s.results i p before_results place (omega arith))
+      rw e (row_at result_numbers result_width length_result [] no_node_result j g front record_results s.results i p before_results place (omega arith))
 
   -- WHAT THE ARRAYS HOLD FITS.
   signal_good : (i : ℕ) → i < store → SignalFits (get_or s.signals i no_signal)
@@ -131,69 +116,8 @@ module _ (s : State) (f : Fits s) where
   streak_good : (i : ℕ) → i < nodes → StreakFits (get_or s.streaks i no_streak)
   streak_good i h = let n = f.streaks_long in all_at StreakFits s.streaks f.streaks i no_streak (omega arith)
 
-  result_good : (i : ℕ) → i < nodes → ResultFits (get_or s.results i no_result)
-  result_good i h = let n = f.results_long in all_at ResultFits s.results f.results i no_result (omega arith)
-
-  -- READ BACK.
-  signal_back : (i : ℕ) → i < store → signal_of (record_numbers s) i ≡ get_or s.signals i no_signal
-  unfolding signal_of signal_numbers
-  signal_back i h =
-      let x = get_or s.signals i no_signal in
-      let g = signal_good i h in
-      rw (signal_at i h 0 (signal_place i) (omega arith) (omega arith), signal_at i h 1 (signal_place i + 1) (omega arith) (omega arith), signal_at i h 2 (signal_place i + 2) (omega arith) (omega arith), signal_at i h 3 (signal_place i + 3) (omega arith) (omega arith), signal_at i h 4 (signal_place i + 4) (omega arith) (omega arith), small x.event_id g.event_id, name_small x.signal g.signal, name_small x.outcome g.outcome, small x.«data» g.data_handle)
-
-  visits_back : (i : ℕ) → i < nodes → visits_of (record_numbers s) i ≡ get_or s.visits i no_visits
-  unfolding visits_of
-  visits_back i h = rw (visits_at i h, small _ (visits_good i h))
-
-  streak_back : (i : ℕ) → i < nodes → streak_of (record_numbers s) i ≡ get_or s.streaks i no_streak
-  unfolding streak_of streak_numbers
-  streak_back i h =
-      let g = streak_good i h in
-      rw (streak_at i h 0 (streak_place i) (omega arith) (omega arith), streak_at i h 1 (streak_place i + 1) (omega arith) (omega arith), name_small _ g.outcome, small _ g.count)
-
-  result_back : (i : ℕ) → i < nodes → result_of (record_numbers s) i ≡ get_or s.results i no_result
-  unfolding result_of result_numbers
-  result_back i h =
-      let x = get_or s.results i no_result in
-      let g = result_good i h in
-      let o = simp append-nil at (output_back [] x.output g.output) in
-      rw (result_at i h 0 (result_place i) (omega arith) (omega arith), result_at i h 1 (result_place i + 1) (omega arith) (omega arith), result_at i h 2 (result_place i + 2) (omega arith) (omega arith), result_at i h 3 (result_place i + 3) (omega arith) (omega arith), result_at i h 4 (result_place i + 4) (omega arith) (omega arith), result_at i h 5 (result_place i + 5) (omega arith) (omega arith), small _ g.visit, name_small _ g.outcome, o)
-
-  kept_read : kept_of (at (record_numbers s) layout.record_error) (at (record_numbers s) (layout.record_error + 1)) (at (record_numbers s) (layout.record_error + 2)) (at (record_numbers s) (layout.record_error + 3)) ≡ s.invocation.error
-  kept_read = rw (kept_at 0, kept_at 1, kept_at 2, kept_at 3) (kept_back from_output s.invocation.error f.invocation.error)
-
-  output_read : output_of (at (record_numbers s) layout.record_result) (at (record_numbers s) (layout.record_result + 1)) (at (record_numbers s) (layout.record_result + 2)) (at (record_numbers s) (layout.record_result + 3)) ≡ s.result.output
-  output_read = rw (output_at 0, output_at 1, output_at 2, output_at 3) (output_back from_stored s.result.output f.result)
-
-  position_back : position_of (record_numbers s) ≡ s.position
-  unfolding position_of record_numbers head_numbers scalar_numbers
-  position_back = rw (name_small s.position.node f.position.node, small s.position.visit f.position.visit)
-
-  invocation_back : invocation_of (record_numbers s) ≡ s.invocation
-  unfolding invocation_of record_numbers head_numbers scalar_numbers
-  invocation_back =
-      let x = s.invocation in
-      let g = f.invocation in
-      let k = kept_read in
-      rw (k, small x.phase g.phase, name_small x.node g.node, small x.visit g.visit, name_small x.action g.action, small x.attempt g.attempt, small x.input g.input)
-
-  result_of_run_back : run_result_of (record_numbers s) ≡ s.result
-  unfolding run_result_of
-  result_of_run_back = let o = output_read in rw o
-
-  pub record_back_of : record_of (record_numbers s) ≡ s
-  unfolding record_of record_numbers head_numbers scalar_numbers
-  record_back_of =
-      let n : narrow (at (record_numbers s) layout.record_stored) ≡ s.signal_count = rw stored_at (small s.signal_count f.signal_count) in
-      let a = span_list (signal_of (record_numbers s)) no_signal s.signals store f.signals_long signal_back in
-      let b = span_list (visits_of (record_numbers s)) no_visits s.visits nodes f.visits_long visits_back in
-      let c = span_list (streak_of (record_numbers s)) no_streak s.streaks nodes f.streaks_long streak_back in
-      let d = span_list (result_of (record_numbers s)) no_result s.results nodes f.results_long result_back in
-      let p = position_back in
-      let q = invocation_back in
-      let r = result_of_run_back in
-      rw (a, b, c, d, n, p, q, r, small s.status f.status, small s.input f.input, small s.activations f.activations)
+  result_good : (i : ℕ) → i < nodes → ResultFits (get_or s.results i no_node_result)
+  result_good i h = let n = f.results_long in all_at ResultFits s.results f.results i no_node_result (omega arith)
 
   -- THE NUMBERS FIT.
   head_fit : head_fits (record_numbers s) ≡ true
@@ -229,9 +153,13 @@ module _ (s : State) (f : Fits s) where
       let e : at (record_numbers s) (result_place i + 1) < 256 = rw (result_at i h 1 (result_place i + 1) (omega arith) (omega arith)) y.outcome in
       let o : output_fits (at (record_numbers s) (result_place i + 2)) (at (record_numbers s) (result_place i + 3)) (at (record_numbers s) (result_place i + 4)) (at (record_numbers s) (result_place i + 5)) ≡ true =
       rw (result_at i h 2 (result_place i + 2) (omega arith) (omega arith), result_at i h 3 (result_place i + 3) (omega arith) (omega arith), result_at i h 4 (result_place i + 4) (omega arith) (omega arith), result_at i h 5 (result_place i + 5) (omega arith) (omega arith))
-      (simp append-nil at (output_fit [] (get_or s.results i no_result).output y.output)) in
+      (simp append-nil at (output_fit [] (get_or s.results i no_node_result).output y.output)) in
       of_both _ _ (below_fields (record_numbers s) (node_fields i) (a, (b, (c, (d, (e, tt)))))) o
 
   pub numbers_fit : record_fits (record_numbers s) ≡ true
   unfolding record_fits
   numbers_fit = of_both _ _ (of_both _ _ head_fit (at_below store (signal_fits (record_numbers s)) signal_fit)) (at_below nodes (node_fits (record_numbers s)) node_fit)
+
+  -- So the record is read back from them.
+  pub record_back_of : record_of (record_numbers s) ≡ s
+  record_back_of = record_back_whole s whole numbers_fit

@@ -1,5 +1,5 @@
 // The boundary for hosts: a call, a run record and an answer as plain numbers (docs/NUMBERS.md).
-#![tactic(auto, using(model::specs::RouteLaws::deciding), unfolding(crate::specs::Receipt::by_numbers, crate::specs::Host::verdict_numbers))]
+#![tactic(auto, using(laws::specs::Bool::deciding), unfolding(crate::specs::Receipt::by_numbers, crate::specs::Host::verdict_numbers))]
 
 pub mod layout;
 pub mod read;
@@ -88,7 +88,7 @@ fn read_given(given: &[u64; layout::RECORD], has_record: bool, used: Used) -> Op
 }
 
 // One call: the lengths are tested before a number is read.
-#[tactic(auto, using(model::specs::RouteLaws::deciding), unfolding(crate::specs::Host::receipt, crate::specs::Host::answered))]
+#[tactic(auto, using(laws::specs::Bool::deciding), unfolding(crate::specs::Host::receipt, crate::specs::Host::answered))]
 fn answer_call(
     sheet: &[u32; NUMBERS],
     sheet_len: usize,
@@ -153,7 +153,7 @@ fn verdict_numbers(verdict: Result<(), Broken>) -> [u32; layout::VERDICT]
 }
 
 // The verdict on a sheet: the refusal's number and its item, or 0 and 0.
-#[tactic(auto, using(model::specs::RouteLaws::deciding), unfolding(crate::specs::Host::verdict_receipt, crate::specs::Host::judged))]
+#[tactic(auto, using(laws::specs::Bool::deciding), unfolding(crate::specs::Host::verdict_receipt, crate::specs::Host::judged))]
 pub fn kuxhoveza_verdict(
     sheet: &[u32; NUMBERS],
     sheet_len: usize,
