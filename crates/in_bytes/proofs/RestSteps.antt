@@ -3,7 +3,7 @@ use Rattle.std.specs.Prelude.{◌≡◌, Option, Some, None, Bool, true, false, 
 use Rattle.std.proofs.Math.Path.{refl, sym, ap}
 use Rattle.std.proofs.Common.{◌∙◌}
 use mathlib.Core.List.{List, [], ◌∷◌, ◌++◌, append_assoc}
-use Prim.Native.Nat.{ℕ, ◌+◌, ◌*◌, ◌-◌, ◌^◌, ◌≤◌, ◌<◌}
+use Prim.Native.Nat.{ℕ, zero, suc, ◌+◌, ◌*◌, ◌-◌, ◌^◌, ◌≤◌, ◌<◌}
 use native.Mathlib.Omega.{arith}
 use Rattle.std.proofs.Math.ListN.{length, get_or, take, drop, length-append}
 use Rattle.std.proofs.lemmas.List.{length-replicate}
@@ -15,14 +15,14 @@ use Rattle.host.specs.Layout as layout
 use Rattle.host.specs.Write.{marked}
 use Rattle.codec.specs.Read.{Read, got, bad, onward}
 use Rattle.codec.specs.Leb.{number_at}
-use Rattle.codec.specs.Numbers.{numbers_at, part}
+use Rattle.codec.specs.Numbers.{number_below, numbers_at, part}
 use Rattle.codec.specs.Stages.{numbers, column, Stage}
 use Rattle.codec.specs.Stored.{place_of, Stored, ZeroFrom}
 use Rattle.codec.specs.Exact.{Bytes}
 use Rattle.codec.proofs.ExactLaws.{not_bad}
 use Rattle.codec.proofs.NumbersLaws.{below_got, below_over, below_bad, below_any, numbers_long}
 use Rattle.codec.proofs.StoredLaws.{at_got, at_bad, bad_place, got_place, got_stored}
-use Rattle.codec.proofs.ShapesLoops.{getD_splice}
+use Rattle.codec.proofs.ShapesLoops.{nothing_yet, getD_splice, behind}
 use Rattle.codec.proofs.ColumnsLaws.{column_read}
 use Rattle.codec.proofs.ColumnsLoops.{column_place, column_long, column_stored}
 use Rattle.codec.proofs.Zeros.{zero_behind}
@@ -32,6 +32,25 @@ use Rattle.in_bytes.specs.Call.{mark, given_shape, given, event_numbers, answere
 use Rattle.in_bytes.specs.CallStored.{RestStored}
 use Rattle.in_bytes.proofs.CallLaws.{given_exact, given_width}
 use Rattle.in_bytes.proofs.StagesLeft.{read_long, same_read, Left, left_start, left_bad, left_more, left_end}
+
+-- NUMBERS in two parts.
+module _ (top : ℕ) (bytes : List ℕ) where
+  one_more : (n k : ℕ) (r : Read (List ℕ)) → onward (onward r (λ xs p. onward (numbers_at top k bytes p) (λ ys q. got (xs ++ ys) q))) (λ ns q. got (n ∷ ns) q) ≡ onward (onward r (λ xs p. got (n ∷ xs) p)) (λ xs p. onward (numbers_at top k bytes p) (λ ys q. got (xs ++ ys) q))
+  unfolding onward
+  one_more n k bad = refl
+  one_more n k (got xs p) = sym (behind (n ∷ []) xs (numbers_at top k bytes p))
+
+  by_first : (j k : ℕ) (r : Read ℕ) → ((p : ℕ) → numbers_at top (j + k) bytes p ≡ onward (numbers_at top j bytes p) (λ xs q. onward (numbers_at top k bytes q) (λ ys t. got (xs ++ ys) t))) → onward r (λ n p. onward (numbers_at top (j + k) bytes p) (λ ns q. got (n ∷ ns) q)) ≡ onward (onward r (λ n p. onward (numbers_at top j bytes p) (λ ns q. got (n ∷ ns) q))) (λ xs p. onward (numbers_at top k bytes p) (λ ys q. got (xs ++ ys) q))
+  unfolding onward
+  by_first j k bad f = refl
+  by_first j k (got n p) f = rw (f p) (one_more n k (numbers_at top j bytes p))
+
+  numbers_two : (j k at : ℕ) → numbers_at top (j + k) bytes at ≡ onward (numbers_at top j bytes at) (λ xs p. onward (numbers_at top k bytes p) (λ ys q. got (xs ++ ys) q))
+  unfolding numbers_at onward
+  numbers_two zero k at = let e : 0 + k ≡ k = omega arith in rw e (sym (nothing_yet (numbers_at top k bytes at)))
+  numbers_two (suc j) k at =
+      let e : suc j + k ≡ suc (j + k) = omega arith in
+      rw e (by_first j k (number_below top bytes at) (numbers_two j k))
 
 -- ONE NUMBER, tested after it was read.
 module _ (bytes : List ℕ) (at : ℕ) where
