@@ -217,7 +217,7 @@ impl<'a> Formed<'a> {
 
 // Rules 8, 9 and 12, node by node.
 
-// Kept: | here and in `has_bad_limit`, since with || a verdict on a full sheet takes 1.15 times as long (b).
+// A strict test here and in `has_bad_limit`: with a lazy one a verdict on a full sheet took 1.15 times as long.
 // A limit that is 0 or not below the most visits: one more than it stays at the largest number.
 fn is_out_of_range(most: u32, limit: u32) -> bool
     ensures { result ≡ out_of_range most limit }

@@ -28,6 +28,7 @@ pub struct Machine<'a> {
 }
 
 // A success without an outcome means ok.
+// Kept: this and model's `signal_outcome` differ in the constant; of both it would be a parameter (d).
 fn success_outcome(outcome: u32) -> u32
     ensures { result ≡ success_outcome outcome }
 {

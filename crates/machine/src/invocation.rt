@@ -26,6 +26,7 @@ impl<'a> Machine<'a> {
     }
 
     // The current node, if it is the one named.
+    // Kept: a number, since document 01 says none by 255 (a).
     pub fn named_node(&self) -> u32
         ensures { result ≡ named_node self.now.state.now.invocation self.now.event.now }
     {
@@ -53,7 +54,7 @@ impl<'a> Machine<'a> {
     }
 
     // Format 2 parks a failure that may park.
-    // Kept: may_park, here and below, is the definition's flag, and an enum of its two values would need a function to it (d).
+    // Kept: may_park, here and below, since the public `fail_invocation` takes it (a).
     fn parks(&self, may_park: bool) -> bool
         ensures { result ≡ (may_park and is_0_2 (workflow self.now.sheet.now)) }
     {

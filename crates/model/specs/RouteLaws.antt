@@ -48,7 +48,7 @@ module _ (f : Workflow) (s : State) (n : ℕ) where
   abbrev along : Routing → Move
   along y = record { state = with_streak s n y.streak; next = next_of (route_of f n y.outcome) n; note = y.note; ending = None; order = None; read = 0 }
 
-  follow_on : (x : Option ℕ) → follow_to f s n x ≡ still s (next_of x n)
+  pub follow_on : (x : Option ℕ) → follow_to f s n x ≡ still s (next_of x n)
   unfolding follow_to next_of
   follow_on (Some t) = refl
   follow_on None = refl

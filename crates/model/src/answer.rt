@@ -91,6 +91,7 @@ pub enum Noted {
 }
 
 // A note, at a node or at none.
+// Kept: the node is a number, since document 01 says none by 255 (a).
 #[derive(Clone, Copy, Debug, PartialEq, Eq)]
 pub struct Note {
     pub node: u32,
@@ -195,6 +196,7 @@ pub fn order_numbers(order: Option<Order>) -> [u64; 9]
 }
 
 impl Reason {
+    // Kept: a derive has no number, here and below, and an `impl From` would have this cast and a law about it (d).
     pub fn number(self) -> u32
         ensures { result ≡ reason_number self }
     {

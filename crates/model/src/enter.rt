@@ -176,6 +176,7 @@ impl<'a> Entering<'a> {
     fn activity(&self) -> Entry
         ensures { Enters self.now result enter_activity }
     {
+        // Kept: with `?` here and below the function's type would be Result<Entry, Entry> (d).
         let input = match self.evaluate(0, Field::Input) {
             Ok(handle) => handle,
             Err(entry) => return entry,

@@ -1,7 +1,7 @@
 // What a call carries beside the sheet and the record.
 
 // One event. Fields that its kind doesn't read are ignored.
-// Kept: kind, status and resolution are numbers, since a call takes any and refuses what it doesn't know with 21; an error's mark stands beside its numbers as a host lends them (a).
+// Kept: kind, status and resolution are numbers, since a call takes any and refuses what it doesn't know with 21; an error's mark stands beside its numbers, and 255 for an absent outcome, as a host lends them (a).
 #[derive(Clone, Copy, Debug, PartialEq, Eq)]
 pub struct Event {
     pub sequence: u64,

@@ -11,7 +11,7 @@ pub mod route;
 pub mod store;
 mod time;
 
-ghost use Rattle.std.specs.Prelude.{◌≡◌};
+ghost use Rattle.std.specs.Prelude.{◌≡◌, get_or};
 ghost use Rattle.model.specs.Record.{no_position, no_invocation, no_signal, no_visits, no_streak, no_node_result, visits_of, streak_of, fresh, finished, is_terminal};
 ghost use Rattle.model.specs.Code.{error_code};
 ghost use Rattle.model.specs.Answers.{output_numbers, kept_numbers};
@@ -105,7 +105,7 @@ pub struct InvocationState {
 }
 
 // The run record. Signals are stored oldest first; visits, streaks and results are by node.
-// Kept: arrays beside their count, and status a number: document 01's record in fixed memory, which a call takes with any numbers and refuses with 25 (a).
+// Kept: arrays beside their count, status a number, and none said by 255, 0 or zeros, in the structs above too: document 01's record in fixed memory, which a call takes with any numbers and refuses with 25 (a).
 #[derive(Clone, Copy, Debug, PartialEq, Eq)]
 pub struct State {
     pub signals: [BufferedSignal; code::STORE],
@@ -124,6 +124,7 @@ pub struct State {
 }
 
 impl ErrorCode {
+    // Kept: a derive has no number, and an `impl From` would have this cast and a law about it (d).
     pub fn number(self) -> u32
         ensures { result ≡ error_code self }
     {
@@ -241,6 +242,7 @@ impl BufferedSignal {
 
 impl State {
     // How many signals are stored at most.
+    // Kept: no From goes from usize to u32 (d).
     pub const STORE: u32 = code::STORE as u32;
 
     // The record that a start makes, before its start node is entered.
@@ -270,16 +272,14 @@ impl State {
     pub fn visits_of(&self, node: u32) -> Visits
         ensures { result ≡ visits_of self.now node }
     {
-        let slot = self.visits.get(node as usize);
-        slot.copied().unwrap_or(Visits::none())
+        slot_of(&self.visits, node, Visits::none())
     }
 
     // The streak of a node: none where it has no slot.
     pub fn streak_of(&self, node: u32) -> Streak
         ensures { result ≡ streak_of self.now node }
     {
-        let slot = self.streaks.get(node as usize);
-        slot.copied().unwrap_or(Streak::none())
+        slot_of(&self.streaks, node, Streak::none())
     }
 
     // The run ends.
@@ -298,6 +298,13 @@ impl State {
         self.finish(status, res);
         self
     }
+}
+
+// A node's slot: an empty one where it has none.
+fn slot_of<T: Copy>(slots: &[T], node: u32, none: T) -> T
+    ensures { result ≡ get_or slots.now node none }
+{
+    slots.get(node as usize).copied().unwrap_or(none)
 }
 
 // A run has ended when it is completed or failed.

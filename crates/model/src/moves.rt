@@ -7,6 +7,7 @@ use crate::answer::{Ending, Field, Note, Order};
 use workflow::refusal::Refusal;
 
 // What comes after a move.
+// Kept: the node come from is a number, since document 01 says none by 255 (a).
 #[derive(Clone, Copy, Debug, PartialEq, Eq)]
 pub enum Next {
     // nothing: the moves of this call are over

@@ -137,8 +137,7 @@ fn unstored(next: Next, note: Option<Note>, ending: Option<Ending>) -> Routed
     }
 }
 
-// What routing says, with the record in which it is stored.
-// Kept: `store` beside it changes the record in place; one method that takes the record and does both copies it once more for each signal (b).
+// What routing says, with the record in which `store` has stored it. One method that takes the record and does both copied it once more for each signal.
 fn said(state: State, routed: Routed) -> Move
     ensures { result ≡ said state routed }
 {

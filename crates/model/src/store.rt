@@ -68,6 +68,7 @@ impl State {
     pub fn store_fits(&self) -> bool
         ensures { result ≡ store_fits self.now }
     {
+        // Kept: an answer of its own, since the two parts of the array are there only behind it (d).
         if State::STORE < self.signal_count {
             return false;
         }
