@@ -52,7 +52,7 @@ pub struct RunResult {
     pub output: Output,
 }
 
-#[derive(Clone, Copy, Debug, PartialEq, Eq)]
+#[derive(Clone, Copy, Debug, Default, PartialEq, Eq)]
 pub struct BufferedSignal {
     pub sequence: u64,
     pub event_id: u32,
@@ -62,13 +62,13 @@ pub struct BufferedSignal {
 }
 
 // How often a node was entered.
-#[derive(Clone, Copy, Debug, PartialEq, Eq)]
+#[derive(Clone, Copy, Debug, Default, PartialEq, Eq)]
 pub struct Visits {
     pub count: u32,
 }
 
 // How often in a row a node routed a limited outcome; count 0 for none.
-#[derive(Clone, Copy, Debug, PartialEq, Eq)]
+#[derive(Clone, Copy, Debug, Default, PartialEq, Eq)]
 pub struct Streak {
     pub outcome: u32,
     pub count: u32,
@@ -192,7 +192,7 @@ impl Visits {
     pub fn none() -> Visits
         ensures { result ≡ no_visits }
     {
-        Visits { count: 0 }
+        Visits::default()
     }
 }
 
@@ -212,10 +212,7 @@ impl Streak {
     pub fn none() -> Streak
         ensures { result ≡ no_streak }
     {
-        Streak {
-            outcome: 0,
-            count: 0,
-        }
+        Streak::default()
     }
 }
 
@@ -230,13 +227,7 @@ impl BufferedSignal {
     pub fn none() -> BufferedSignal
         ensures { result ≡ no_signal }
     {
-        BufferedSignal {
-            sequence: 0,
-            event_id: 0,
-            signal: 0,
-            outcome: 0,
-            data: 0,
-        }
+        BufferedSignal::default()
     }
 }
 
