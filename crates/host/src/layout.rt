@@ -1,11 +1,11 @@
 // Where each number of a run record, a call and an answer stands (docs/NUMBERS.md). The header's numbers are made from this file.
+// Kept: numbers, since the C header is made from them; where there is no answer the code has `Fault` (a).
 
 // The layout's version: one more with every change of what stands below or of the sheet's layout.
 pub const LAYOUT_VERSION: u32 = 1;
 
 // What a function returns: what it answers is written; or the buffer for it is too short, the call or the record has a
 // number that its field can't hold, or an array has not the length that the layout says. Then nothing is written.
-// Kept: numbers, here and above, from which the C header is made; the code has `Fault` (a).
 pub const WRITTEN: u32 = 0;
 
 pub const SHORT_BUFFER: u32 = 1;
