@@ -59,8 +59,7 @@ extern "C" {
 /* All numbers of a sheet. */
 #define KUXHOVEZA_SHEET 4169
 
-/* Kept: numbers, since the C header is made from them; where there is no answer the code has `Fault` (a).
- * The layout's version: one more with every change of what stands below or of the sheet's layout. */
+/* The layout's version: one more with every change of what stands below or of the sheet's layout. */
 #define KUXHOVEZA_LAYOUT_VERSION 1
 
 /* What a function returns: what it answers is written; or the buffer for it is too short, the call or the record has a

@@ -1,5 +1,4 @@
-// Where each number of a run record, a call and an answer stands (docs/NUMBERS.md). The header's numbers are made from this file.
-// Kept: numbers, since the C header is made from them; where there is no answer the code has `Fault` (a).
+// Where each number of a run record, a call and an answer stands (docs/NUMBERS.md). The header's numbers are made from this file. Kept: numbers for that (a).
 
 // The layout's version: one more with every change of what stands below or of the sheet's layout.
 pub const LAYOUT_VERSION: u32 = 1;
