@@ -53,7 +53,7 @@ fn error(code: u64, node: u64, detail: u64) -> ErrorInfo
     }
 }
 
-// Kept: four numbers by name, here and below; an array of them would be taken apart by index at once (d).
+// Kept: four numbers by name, here and below: an array of them would be put together at each call only to be taken apart at once (d).
 pub(crate) fn output(tag: u64, a: u64, b: u64, c: u64) -> Output
     ensures { result ≡ output_of tag a b c }
 {
@@ -76,6 +76,7 @@ fn kept(tag: u64, a: u64, b: u64, c: u64) -> Option<ErrorInfo>
 }
 
 // How many rows are read.
+// Kept: beside the record in four functions: what is known of both (`Past`, `UsedRows`) hangs on whether the record counts, so that a struct of both couldn't say it of itself (d).
 
 #[derive(Clone, Copy)]
 pub struct Used {
@@ -103,7 +104,7 @@ fn signal_rows(xs: &[u64; layout::RECORD]) -> usize
 }
 
 // By the sheet's count.
-// Kept: the count is of the sheet's nodes and no part of the record (d).
+// Kept: the count is of the sheet's nodes and no part of the record; its bound is a clause, here, in `used_rows` and twice in write.rt, since it is made once (`capped` in lib.rt) and a type of its own would hold nothing else (d).
 fn node_rows(xs: &[u64; layout::RECORD], rows: usize) -> usize
     requires { rows ≤ nodes }
     ensures { NodesPast xs.now result }

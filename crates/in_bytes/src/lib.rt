@@ -211,6 +211,7 @@ fn answered(answer: &[u64; layout::ANSWER], out: &mut [u8]) -> u64
     ensures value { result ≡ returned (told (length out.old) (said answer.now)) }
     ensures out_after { out.new ≡ left (told (length out.old) (said answer.now)) out.old }
 {
+    // Kept: the kind as its number, 3 of a refusal, as in answer.rt (d).
     if answer[layout::ANSWER_KIND] == 3 {
         return packed(
             answer[layout::ANSWER_REFUSAL_NUMBER],
@@ -225,6 +226,7 @@ fn answered(answer: &[u64; layout::ANSWER], out: &mut [u8]) -> u64
     done(size)
 }
 
+// Kept: `kuxhoveza_call_on` is as this but for its sheet: what they share is `answered`, and one of both would take `decide` or `decide_on` as a closure with its contract (d).
 pub fn kuxhoveza_call(bytes: &[u8], out: &mut [u8]) -> u64
     ensures value { result ≡ returned (call_bytes bytes.now (length out.old)) }
     ensures out_after { out.new ≡ left (call_bytes bytes.now (length out.old)) out.old }
