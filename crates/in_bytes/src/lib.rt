@@ -3,7 +3,6 @@
 
 mod answer;
 mod call;
-mod event;
 pub mod run;
 mod sheet;
 pub mod structs;
@@ -17,11 +16,10 @@ ghost use Rattle.in_bytes.specs.Tests.{ends_at};
 
 use crate::answer::{answer_size, write_answer};
 use crate::call::{read_call, read_call_on};
-use crate::event::event_fits;
 use crate::run::{read_run, run_size, run_tidy, tidy_fits, write_run};
 use crate::sheet::{read_sheet, sheet_size, sheet_tidy, write_sheet};
 use codec::numbers::{numbers_size, read_numbers, write_numbers};
-use host::read::run_fits;
+use host::read::{event_fits, run_fits};
 use host::{kuxhoveza_transition, layout};
 use workflow::layout::NUMBERS;
 use workflow::refusal::Refusal;
