@@ -1,5 +1,5 @@
 -- How the lent numbers of a run record and of a call are read (docs/NUMBERS.md), and which numbers their fields can hold.
-use Rattle.std.specs.Prelude.{Bool, ◌&&◌, List, [], ◌∷◌, ℕ, ◌+◌, ◌%◌, ◌^◌, get_or, ltb, eqb, Option, Some, None}
+use Rattle.std.specs.Prelude.{Bool, ◌&&◌, List, [], ◌∷◌, ◌++◌, ℕ, ◌+◌, ◌-◌, ◌%◌, ◌^◌, get_or, replicate, ltb, eqb, Option, Some, None}
 use Rattle.laws.specs.Bool.{when◌then◌else◌}
 use Rattle.laws.specs.Rows.{span}
 use Rattle.laws.specs.Every.{every, below}
@@ -289,3 +289,10 @@ mapping_fields index = number (mapping_place index) ∷ number (mapping_place in
 
 unfoldable pub call_fits : List ℕ → Bool
 call_fits numbers = all_fit numbers limit_fields && all_fit numbers event_fields && all_fit numbers (mapping_fields 0) && all_fit numbers (mapping_fields 1)
+
+-- The call that has this event and else zeros; an event fits as its fields do in a call.
+unfoldable pub event_call : List ℕ → List ℕ
+event_call ns = replicate layout.call_sequence 0 ++ ns ++ replicate (layout.call_length - layout.call_answered) 0
+
+abbrev pub event_fits : List ℕ → Bool
+event_fits ns = call_fits (event_call ns)

@@ -76,7 +76,7 @@ fn by_numbers(
 }
 
 // The record that goes with a call, if one does.
-// Kept: a mark, since a record is lent with every call, and the call says whether it counts (a).
+// Kept: a mark beside the record: the call says whether it counts, and an `Option` of it would be made only to be taken apart here (d).
 fn read_given(given: &[u64; layout::RECORD], has_record: bool, used: Used) -> Option<State>
     requires { UsedRows has_record given.now used }
     ensures { result ≡ given_record has_record (record_of given.now) }
@@ -88,6 +88,7 @@ fn read_given(given: &[u64; layout::RECORD], has_record: bool, used: Used) -> Op
 }
 
 // One call: the lengths are tested before a number is read.
+// Kept: the sheet's length beside the sheet, here and in the exported functions: the C interface lends a pointer and a length (a).
 #[tactic(auto, using(laws::specs::Bool::deciding), unfolding(crate::specs::Host::receipt, crate::specs::Host::answered))]
 fn answer_call(
     sheet: &[u32; NUMBERS],

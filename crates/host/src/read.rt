@@ -1,9 +1,9 @@
 // A run record and a call from their numbers (docs/NUMBERS.md). A number that its field can't hold is read modulo 2^32.
 #![tactic(auto, using(laws::specs::Bool::deciding, crate::specs::Tests::fits_each), unfolding(crate::specs::Read::narrow, crate::specs::Read::error_of, crate::specs::Read::output_of, crate::specs::Read::kept_of, crate::specs::Read::position_of, crate::specs::Read::invocation_of, crate::specs::Read::run_result_of, crate::specs::Read::event_of, crate::specs::Read::mapping_of, crate::specs::Read::ceilings_of, crate::specs::Read::limits_of, crate::specs::Read::call_of, crate::specs::Read::output_fits, crate::specs::Read::kept_fits, crate::specs::Read::head_fits, crate::specs::Read::signal_fits, crate::specs::Read::node_fits, crate::specs::Read::call_fits))]
 
-ghost use Rattle.std.specs.Prelude.{◌≡◌, ◌≤◌, ◌<◌, length};
-ghost use Rattle.host.specs.Layout.{store, nodes, mappings};
-ghost use Rattle.host.specs.Read.{at, narrow, error_of, output_of, kept_of, position_of, invocation_of, run_result_of, event_of, mapping_of, ceilings_of, limits_of, call_of, all_fit, limit_fields, event_fields, mapping_fields, head_fields, error_fits, output_fits, kept_fits, head_fits, signal_fits, node_fits, record_fits, call_fits};
+ghost use Rattle.std.specs.Prelude.{◌≡◌, ◌≤◌, ◌<◌, length, take, drop};
+ghost use Rattle.host.specs.Layout.{store, nodes, mappings, call_sequence, event_length};
+ghost use Rattle.host.specs.Read.{at, narrow, error_of, output_of, kept_of, position_of, invocation_of, run_result_of, event_of, mapping_of, ceilings_of, limits_of, call_of, all_fit, limit_fields, mapping_fields, head_fields, error_fits, output_fits, kept_fits, head_fits, signal_fits, node_fits, record_fits, call_fits, event_fits};
 ghost use Rattle.host.specs.ByCount.{blank, SignalsPast, NodesPast, Past, UsedRows, record_rows};
 
 use crate::layout;
@@ -53,7 +53,7 @@ fn error(code: u64, node: u64, detail: u64) -> ErrorInfo
     }
 }
 
-// Kept: four numbers by name, here and below; an array of them would be taken apart by index at once (d).
+// Kept: four numbers by name, here and below: an array of them would be put together at each call only to be taken apart at once (d).
 pub(crate) fn output(tag: u64, a: u64, b: u64, c: u64) -> Output
     ensures { result ≡ output_of tag a b c }
 {
@@ -76,6 +76,7 @@ fn kept(tag: u64, a: u64, b: u64, c: u64) -> Option<ErrorInfo>
 }
 
 // How many rows are read.
+// Kept: beside the record in four functions: what is known of both (`Past`, `UsedRows`) hangs on whether the record counts, so that a struct of both couldn't say it of itself (d).
 
 #[derive(Clone, Copy)]
 pub struct Used {
@@ -103,7 +104,7 @@ fn signal_rows(xs: &[u64; layout::RECORD]) -> usize
 }
 
 // By the sheet's count.
-// Kept: the count is of the sheet's nodes and no part of the record (d).
+// Kept: the count is of the sheet's nodes and no part of the record; its bound is a clause, here, in `used_rows` and twice in write.rt, since it is made once (`capped` in lib.rt) and a type of its own would hold nothing else (d).
 fn node_rows(xs: &[u64; layout::RECORD], rows: usize) -> usize
     requires { rows ≤ nodes }
     ensures { NodesPast xs.now result }
@@ -407,26 +408,36 @@ fn limits_fit(c: &[u64; layout::CALL]) -> bool
         & (c[layout::CALL_HAS_RECORD] < MARK)
 }
 
-fn event_fits(c: &[u64; layout::CALL]) -> bool
-    ensures { result ≡ all_fit c.now event_fields }
+// Where an event's numbers begin in a call.
+const FIRST: usize = layout::CALL_SEQUENCE;
+
+// Every number of an event is one that its field can hold.
+pub fn event_fits(e: &[u64; layout::EVENT]) -> bool
+    ensures { result ≡ event_fits e.now }
 {
-    (c[layout::CALL_EVENT_ID] < NUMBER)
-        & (c[layout::CALL_KIND] < NUMBER)
-        & (c[layout::CALL_INPUT] < NUMBER)
-        & (c[layout::CALL_SIGNAL] < NAME)
-        & (c[layout::CALL_OUTCOME] < NAME)
-        & (c[layout::CALL_DATA] < NUMBER)
-        & (c[layout::CALL_NODE] < NAME)
-        & (c[layout::CALL_VISIT] < NUMBER)
-        & (c[layout::CALL_ATTEMPT] < NUMBER)
-        & (c[layout::CALL_STATUS] < NUMBER)
-        & (c[layout::CALL_OUTPUT] < NUMBER)
-        & (c[layout::CALL_HAS_ERROR] < MARK)
-        & (c[layout::CALL_ERROR_CODE] < CODE)
-        & (c[layout::CALL_ERROR_DETAIL] < NUMBER)
-        & (c[layout::CALL_RETRYABLE] < MARK)
-        & (c[layout::CALL_RESOLUTION] < NUMBER)
-        & (c[layout::CALL_ANSWERED] < NUMBER)
+    (e[layout::CALL_EVENT_ID - FIRST] < NUMBER)
+        & (e[layout::CALL_KIND - FIRST] < NUMBER)
+        & (e[layout::CALL_INPUT - FIRST] < NUMBER)
+        & (e[layout::CALL_SIGNAL - FIRST] < NAME)
+        & (e[layout::CALL_OUTCOME - FIRST] < NAME)
+        & (e[layout::CALL_DATA - FIRST] < NUMBER)
+        & (e[layout::CALL_NODE - FIRST] < NAME)
+        & (e[layout::CALL_VISIT - FIRST] < NUMBER)
+        & (e[layout::CALL_ATTEMPT - FIRST] < NUMBER)
+        & (e[layout::CALL_STATUS - FIRST] < NUMBER)
+        & (e[layout::CALL_OUTPUT - FIRST] < NUMBER)
+        & (e[layout::CALL_HAS_ERROR - FIRST] < MARK)
+        & (e[layout::CALL_ERROR_CODE - FIRST] < CODE)
+        & (e[layout::CALL_ERROR_DETAIL - FIRST] < NUMBER)
+        & (e[layout::CALL_RETRYABLE - FIRST] < MARK)
+        & (e[layout::CALL_RESOLUTION - FIRST] < NUMBER)
+}
+
+// The event of a call.
+fn event_of_call(c: &[u64; layout::CALL]) -> &[u64; layout::EVENT]
+    ensures { result.now ≡ take event_length (drop call_sequence c.now) }
+{
+    <&[u64; layout::EVENT]>::try_from(&c[FIRST..layout::CALL_ANSWERED]).unwrap()
 }
 
 fn mapping_fits(c: &[u64; layout::CALL], i: usize) -> bool
@@ -445,5 +456,9 @@ fn mapping_fits(c: &[u64; layout::CALL], i: usize) -> bool
 pub fn call_fits(c: &[u64; layout::CALL]) -> bool
     ensures { result ≡ call_fits c.now }
 {
-    limits_fit(c) & event_fits(c) & mapping_fits(c, 0) & mapping_fits(c, 1)
+    limits_fit(c)
+        & event_fits(event_of_call(c))
+        & (c[layout::CALL_ANSWERED] < NUMBER)
+        & mapping_fits(c, 0)
+        & mapping_fits(c, 1)
 }

@@ -305,6 +305,7 @@ pub fn leading<T: RecordRow>(rows: &[T], count: usize) -> &[T]
     rows
 }
 
+// Kept: each row by its place: chunks of the buffer would ask that no row has width 0, and have one more length to show (d).
 pub fn write_rows<T: Row>(out: &mut [u64], rows: &[T])
     requires { T.WIDTH * length rows.now ≤ length out.old }
     ensures { out.new ≡ splice out.old 0 (flat_map T.numbers rows.now) }

@@ -8,7 +8,6 @@ pub mod StagesLeft
 pub mod CallLaws
 pub mod RestSteps
 pub mod CallSteps
-pub mod EventLaws
 pub mod DecideLaws
 pub mod BothWays
 pub mod StructsLaws

@@ -1,6 +1,15 @@
 -- What is used of a tidy run: past its stored signals, and past the last node that is used, all is zero.
-use Rattle.std.specs.Prelude.{◌≡◌, true, ◌&&◌, List, ltb, length}
-use Rattle.std.proofs.Math.Path.{refl}
+use Rattle.std.specs.Prelude.{◌≡◌, Bool, true, false, ◌&&◌, List, [], ◌∷◌, ltb, length, Option, Some, None}
+use Rattle.std.specs.Bool.{⊤}
+use Rattle.std.specs.Option.{MatchOption}
+use Rattle.std.specs.List.{FoldsTo}
+use Rattle.std.specs.Fn.{CalledAt}
+use Rattle.std.specs.Iterator.{Yields, YieldsThen}
+use Rattle.std.specs.declared.ops.Range.{Range}
+use Rattle.std.specs.declared.iter.Rev.{Rev}
+use denote.Param.Members.{Mut}
+use denote.Ref.{Bor}
+use Rattle.std.proofs.Math.Path.{refl, subst}
 use Rattle.std.proofs.Common.{sym, ap, ◌∙◌}
 use Prim.Native.Nat.{ℕ, suc, ◌+◌, ◌*◌, ◌-◌, ◌^◌, ◌≤◌, ◌<◌}
 use native.Mathlib.Omega.{arith}
@@ -88,3 +97,27 @@ module _ (xs : List ℕ) (long : length xs ≡ layout.record_length) (tidy : run
             (λ q. let g = ltb-true p (result_place rows) q in slot_zero 2 3 layout.record_results layout.record_length refl results_neat n p (omega arith) o (omega arith) (omega arith) (omega arith))
             (λ q. let g = ltb-false p (result_place rows) q in past.results p g b);
       }
+
+-- `find` over the numbers below a count, from the last down. What holds of the count, and of a number that doesn't pass if it holds of the next, holds of the next of the one that is found; of 0 where none is.
+abbrev down : Rev (Range ℕ) → Option ℕ → Rev (Range ℕ) → Type 0
+down s r t = (t.iter.start ≡ s.iter.start) × MatchOption r ((s.iter.end - s.iter.start ≡ 0) × (t.iter.end ≡ s.iter.end)) (λ x. (0 < s.iter.end - s.iter.start) × (x ≡ t.iter.end) × (s.iter.end ≡ t.iter.end + 1))
+
+module _ {F : Type 0} {g : Mut F (Bor ℕ × Unit {0}) Bool} (Holds : ℕ → Type 0) (f : F) (lower : (x : ℕ) (q : F) → CalledAt g f x false q → (q ≡ f) × (Holds (x + 1) → Holds x)) where
+  passed : (xs : List ℕ) (s t : Rev (Range ℕ)) (j : F) → s.iter.start ≡ 0 → Holds s.iter.end → Yields down s xs t → FoldsTo (λ p x q. CalledAt g p x false q) f xs j → (t.iter.start ≡ 0) × Holds t.iter.end
+  passed [] s t j z h y w = subst (λ (u : Rev (Range ℕ)). (u.iter.start ≡ 0) × Holds u.iter.end) y (z, h)
+  passed (x ∷ xs) s t j z h (k, p, y) (q, c, w) =
+      let l = lower x q c in
+      let e : s.iter.end ≡ x + 1 = omega (arith, p.1) in
+      passed xs k t j (p.0 ∙ z) (subst Holds p.1.1 (l.1 (subst Holds e h))) y (subst (λ v. FoldsTo (λ p x q. CalledAt g p x false q) v xs j) l.0 w)
+
+  pub highest : (s u : Rev (Range ℕ)) (r : Option ℕ) (v : ℕ) (Post : ℕ → Type 0) → s.iter.start ≡ 0 → Holds s.iter.end
+      → (xs : List ℕ) × (j : F) × YieldsThen down s xs r u × FoldsTo (λ p x q. CalledAt g p x false q) f xs j × MatchOption r ⊤ (λ x. (h : F) × CalledAt g j x true h)
+      → MatchOption r (v ≡ 0) Post → ((x : ℕ) → Post x → v ≡ x + 1) → Holds v
+  highest s u None v Post z h (xs, j, (t, y, e), w, m) a b =
+      let p = passed xs s t j z h y w in
+      let q : t.iter.end ≡ v = omega (arith, p.0, e.1, a) in
+      subst Holds q p.1
+  highest s u (Some x) v Post z h (xs, j, (t, y, e), w, m) a b =
+      let p = passed xs s t j z h y w in
+      let q : t.iter.end ≡ v = omega (arith, e.1, b x a) in
+      subst Holds q p.1

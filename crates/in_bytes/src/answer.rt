@@ -18,7 +18,7 @@ fn rows(count: u64, capacity: usize) -> usize
 }
 
 // Where the notes end, and the endings.
-// Kept: one function of both would take its five names as parameters (d).
+// Kept: one function of both would take its four names as parameters (d).
 fn notes_end(xs: &[u64; layout::ANSWER]) -> usize
     ensures { result ≡ answer_notes + note_width * min (get_or xs.now answer_noted 0) notes }
 {
@@ -32,6 +32,7 @@ fn endings_end(xs: &[u64; layout::ANSWER]) -> usize
 }
 
 // What stands before the run.
+// Kept: the kind as its number, 1 of a next record, as the definition says it: layout.rt has where the kind stands and no kinds (d).
 
 fn head_size(xs: &[u64; layout::ANSWER]) -> usize
     ensures { result ≡ length (bytes_of (answer_head xs.now)) }

@@ -3,7 +3,6 @@
 
 mod answer;
 mod call;
-mod event;
 pub mod run;
 mod sheet;
 pub mod structs;
@@ -17,11 +16,10 @@ ghost use Rattle.in_bytes.specs.Tests.{ends_at};
 
 use crate::answer::{answer_size, write_answer};
 use crate::call::{read_call, read_call_on};
-use crate::event::event_fits;
 use crate::run::{read_run, run_size, run_tidy, tidy_fits, write_run};
 use crate::sheet::{read_sheet, sheet_size, sheet_tidy, write_sheet};
 use codec::numbers::{numbers_size, read_numbers, write_numbers};
-use host::read::run_fits;
+use host::read::{event_fits, run_fits};
 use host::{kuxhoveza_transition, layout};
 use workflow::layout::NUMBERS;
 use workflow::refusal::Refusal;
@@ -211,6 +209,7 @@ fn answered(answer: &[u64; layout::ANSWER], out: &mut [u8]) -> u64
     ensures value { result ≡ returned (told (length out.old) (said answer.now)) }
     ensures out_after { out.new ≡ left (told (length out.old) (said answer.now)) out.old }
 {
+    // Kept: the kind as its number, 3 of a refusal, as in answer.rt (d).
     if answer[layout::ANSWER_KIND] == 3 {
         return packed(
             answer[layout::ANSWER_REFUSAL_NUMBER],
@@ -225,6 +224,7 @@ fn answered(answer: &[u64; layout::ANSWER], out: &mut [u8]) -> u64
     done(size)
 }
 
+// Kept: `kuxhoveza_call_on` is as this but for its sheet: what they share is `answered`, and one of both would take `decide` or `decide_on` as a closure with its contract (d).
 pub fn kuxhoveza_call(bytes: &[u8], out: &mut [u8]) -> u64
     ensures value { result ≡ returned (call_bytes bytes.now (length out.old)) }
     ensures out_after { out.new ≡ left (call_bytes bytes.now (length out.old)) out.old }

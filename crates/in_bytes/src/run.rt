@@ -95,12 +95,10 @@ fn used_nodes(r: &[u64; layout::RECORD]) -> usize
     requires { run.tidy r.now ≡ true }
     ensures { NodesPast r.now result }
 {
-    for n in (0..layout::NODES).rev() {
-        if !unused(r, n) {
-            return n + 1;
-        }
-    }
-    0
+    (0..layout::NODES)
+        .rev()
+        .find(|n| !unused(r, *n))
+        .map_or(0, |n| n + 1)
 }
 
 // The fields of a tidy record can hold its numbers. Only what is used is tested: what was read from bytes is tidy.
