@@ -1,15 +1,15 @@
 -- The driver's loop: at each turn the machine of the definition is the record, the lists in their arrays and the counts of the code.
 use Rattle.std.specs.Option.{is_some}
 use mir.Val.{bool_byte}
-use Rattle.std.specs.Prelude.{◌≡◌, Option, Some, None, Bool, true, false, ltb, eqb, take, get_or}
+use Rattle.std.specs.Prelude.{◌≡◌, Option, Some, None, Bool, true, false, ltb, eqb, take, sum_by}
 use Rattle.std.proofs.Math.Path.{refl, sym, ap, subst}
 use Rattle.std.proofs.Common.{◌∙◌, eqb-true, lt-ltb, le-ltb, ltb-true, ltb-false}
 use Rattle.std.proofs.lemmas.Bool.{false≢true, eqb-false}
+use Rattle.std.proofs.lemmas.List.Sums.{sum_by-cons}
 use mathlib.Core.List.{List, [], ◌∷◌, ◌++◌}
 use mathlib.Core.Logic.{◌⊎◌, inl, inr}
-use Prim.Native.Nat.{ℕ, zero, suc, ◌+◌, ◌-◌, ◌*◌, ◌≤◌, ◌<◌}
+use Prim.Native.Nat.{ℕ, suc, ◌+◌, ◌-◌, ◌*◌, ◌≤◌, ◌<◌}
 use native.Mathlib.Omega.{arith}
-use Rattle.std.proofs.Math.ListN.{length}
 use Rattle.laws.specs.Bool.{when◌then◌else◌, if_true, if_false, split, either}
 use Rattle.laws.specs.Settle.{settle, Settling, settle_rests, settled, settle_next}
 use Rattle.laws.specs.First.{first}
@@ -35,7 +35,7 @@ use Rattle.model.specs.declared.moves.Move.{Move}
 use Rattle.workflow.specs.Code.{none}
 use Rattle.workflow.specs.declared.refusal.Refusal.{Refusal}
 use Rattle.model.specs.Store.{listed as stored_as, stored, first_signal, signal_at, removed, leaves_over, left_over, emptied}
-use Rattle.model.specs.Step.{still, no_mapping, arrival, enter, follow_to, route_limited, route, take_by, take as take_signal}
+use Rattle.model.specs.Step.{still, arrival, enter, follow_to, route_limited, route, take_by, take as take_signal}
 use Rattle.model.specs.EnterLaws.{NoNode, entering}
 use Rattle.model.specs.RouteLaws.{consumed, taking}
 use Rattle.kernel.specs.Cost.{cost, takes, entered}
@@ -149,32 +149,10 @@ decide ns es s (code.Answer.Next o j) = when leaves_over s.status s.signal_count
 decide ns es s (code.Answer.Wants t i b) = decision_of (wants t i b s)
 decide ns es s (code.Answer.Refused r i) = decision_of (call.refused r i)
 
--- The operations of the answers that were read.
-module _ (xs : List Mapping) (two : length xs ≡ 2) where
-  pub operations_none : (k : ℕ) → k ≡ 0 → 0 ≡ operations_of (take k xs)
-  unfolding operations_of
-  operations_none k h = rw h
-
-  pub operations_one : (k : ℕ) → k ≡ 1 → (get_or xs 0 no_mapping).operations ≡ operations_of (take k xs)
-  unfolding operations_of
-  operations_one k h = rw h (one xs two)
-    where
-      one : (ys : List Mapping) → length ys ≡ 2 → (get_or ys 0 no_mapping).operations ≡ operations_of (take 1 ys)
-      one [] z = absurd (omega arith)
-      one (y ∷ ys) z = omega arith
-
-  pub operations_two : (k : ℕ) → 2 ≤ k → (get_or xs 0 no_mapping).operations + (get_or xs 1 no_mapping).operations ≡ operations_of (take k xs)
-  unfolding operations_of
-  operations_two k h =
-      let e : k ≡ suc (suc (k - 2)) = omega arith in
-      rw e (both xs (k - 2) two)
-    where
-      both : (ys : List Mapping) (i : ℕ) → length ys ≡ 2 → (get_or ys 0 no_mapping).operations + (get_or ys 1 no_mapping).operations ≡ operations_of (take (suc (suc i)) ys)
-      both [] i z = absurd (omega arith)
-      both (y ∷ []) i z = absurd (omega arith)
-      both (y ∷ (z ∷ [])) zero h = omega arith
-      both (y ∷ (z ∷ [])) (suc i) h = omega arith
-      both (y ∷ (z ∷ (w ∷ ys))) i h = absurd (omega arith)
+pub operations_sum : (xs : List Mapping) → sum_by (λ (x : Mapping). x.operations) xs ≡ operations_of xs
+unfolding operations_of
+operations_sum [] = refl
+operations_sum (x ∷ xs) = sum_by-cons (λ (y : Mapping). y.operations) x xs ∙ rw (operations_sum xs)
 
 -- WHAT A TAKING SAYS: it ends its signal, orders nothing and reads no mapping answer.
 record Ends (v : Move) : Type 0 where

@@ -40,15 +40,12 @@ fn operations_of(mappings: Mappings, read: u32) -> u64
     ensures value { result ≡ operations_of (take read mappings.answers) }
     ensures upper_bound { result ≤ 8589934592 }
 {
-    if read == 0 {
-        return 0;
-    }
-    let first = mappings.answers[0].operations;
-    if read == 1 {
-        return u64::from(first);
-    }
-    let second = mappings.answers[1].operations;
-    u64::from(first) + u64::from(second)
+    mappings
+        .answers
+        .iter()
+        .take(read as usize)
+        .map(|answer| u64::from(answer.operations))
+        .sum()
 }
 
 // A signal that ended was taken.
