@@ -15,23 +15,17 @@ use crate::{Decision, Limits};
 use machine::events::arrival;
 use model::answer::{Answer, Ending, Note, Order};
 use model::event::{Event, Mappings};
-use model::moves::Next;
+use model::moves::{Move, Next};
 use model::store::leaves_over;
 use model::{BufferedSignal, State};
 use workflow::code::NONE;
 use workflow::layout::NUMBERS;
 use workflow::refusal::Refusal;
 
-// What a signal that is taken and the entry that follows make of a call: the record and what comes next, what was said, and how
-// many microsteps these were.
+// A signal that is taken and the entry that follows, told as one move, and how many microsteps these were.
 #[derive(Clone, Copy)]
 struct Round {
-    state: State,
-    next: Next,
-    note: Option<Note>,
-    ending: Option<Ending>,
-    order: Option<Order>,
-    read: u32,
+    made: Move,
     microsteps: u32,
 }
 
@@ -75,12 +69,11 @@ fn take_and_enter(
     let taken = state.take(w, next, arrived);
     let entered = taken.state.enter(w, taken.next, mappings);
     Round {
-        state: entered.state,
-        next: entered.next,
-        note: taken.note,
-        ending: taken.ending,
-        order: entered.order,
-        read: entered.read,
+        made: Move {
+            note: taken.note,
+            ending: taken.ending,
+            ..entered
+        },
         microsteps: takes(taken.ending) + entries(taken.next),
     }
 }
@@ -228,14 +221,14 @@ fn run(
         if limits.microsteps < microsteps {
             return refusal(Refusal::MicrostepsExceeded, NONE);
         }
-        notes.add(v.note);
-        endings.add(v.ending);
-        operations += operations_of(mappings, v.read);
-        if is_over(v.next, v.state.signal_count) {
-            let answer = answer_of(v.next, v.order, limits, microsteps, operations);
-            return decide(notes, endings, answer, v.state);
+        notes.add(v.made.note);
+        endings.add(v.made.ending);
+        operations += operations_of(mappings, v.made.read);
+        if is_over(v.made.next, v.made.state.signal_count) {
+            let answer = answer_of(v.made.next, v.made.order, limits, microsteps, operations);
+            return decide(notes, endings, answer, v.made.state);
         }
-        v = take_and_enter(w, v.state, v.next, arrival(event), mappings);
+        v = take_and_enter(w, v.made.state, v.made.next, arrival(event), mappings);
     }
 }
 
@@ -252,12 +245,7 @@ pub fn drive(
 {
     let applied = machine::apply(w, s, event);
     let first = Round {
-        state: applied.state,
-        next: applied.next,
-        note: applied.note,
-        ending: applied.ending,
-        order: applied.order,
-        read: applied.read,
+        made: applied,
         microsteps: 0,
     };
     run(w, first, limits, event, mappings)
