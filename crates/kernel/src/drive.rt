@@ -93,6 +93,7 @@ fn order_count(order: Option<Order>) -> u32
 }
 
 // At rest: 29 orders over the command limit, then 30 operations over theirs.
+// Kept: NONE, here and below: document 01 gives 255 as the item of a refusal that has none (a).
 fn rest_answer(order: Option<Order>, limits: Limits, microsteps: u32, operations: u64) -> Answer
     ensures { result ≡ rest_answer order limits microsteps operations }
 {
@@ -156,6 +157,7 @@ pub fn refusal(refusal: Refusal, item: u32) -> Decision
 }
 
 // The close: what is still stored is left over, behind the other endings, and the store is empty.
+// Kept: the store's bound in three functions, this, decide and drive: a call takes a record with any count, and refuses it with 25, so State can't hold it (a).
 fn close(
     notes: Listed<Note>,
     mut endings: Listed<Ending>,
