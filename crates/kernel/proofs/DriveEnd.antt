@@ -57,5 +57,5 @@ module _ (f : Workflow) (l : Limits) (e : Event) (m : Mappings) (v₀ : Round) w
     ends_by t (Wants i g c) o h r b = ap (λ (u : Machine). decision_of (finish l u)) (settled r refl refl)
     ends_by t (Refuse i) o h r b = ap (λ (u : Machine). decision_of (finish l u)) (settled r refl refl)
 
-    pub driving_ends : is_over v.next v.state.signal_count ≡ true → decide d.ns d.es v.state (answer_of v.next v.order l j q) ≡ decision_of (finish l (drive.at_end f l e m v₀))
-    driving_ends h = ends_by v.state v.next v.order h d.going.runs d.going.bounds
+    pub driving_ends : is_over v.made.next v.made.state.signal_count ≡ true → decide d.ns d.es v.made.state (answer_of v.made.next v.made.order l j q) ≡ decision_of (finish l (drive.at_end f l e m v₀))
+    driving_ends h = ends_by v.made.state v.made.next v.made.order h d.going.runs d.going.bounds

@@ -1,15 +1,15 @@
 -- The driver's loop: at each turn the machine of the definition is the record, the lists in their arrays and the counts of the code.
 use Rattle.std.specs.Option.{is_some}
 use mir.Val.{bool_byte}
-use Rattle.std.specs.Prelude.{◌≡◌, Option, Some, None, Bool, true, false, ltb, eqb, take, get_or}
+use Rattle.std.specs.Prelude.{◌≡◌, Option, Some, None, Bool, true, false, ltb, eqb, take, sum_by}
 use Rattle.std.proofs.Math.Path.{refl, sym, ap, subst}
 use Rattle.std.proofs.Common.{◌∙◌, eqb-true, lt-ltb, le-ltb, ltb-true, ltb-false}
 use Rattle.std.proofs.lemmas.Bool.{false≢true, eqb-false}
+use Rattle.std.proofs.lemmas.List.Sums.{sum_by-cons}
 use mathlib.Core.List.{List, [], ◌∷◌, ◌++◌}
 use mathlib.Core.Logic.{◌⊎◌, inl, inr}
-use Prim.Native.Nat.{ℕ, zero, suc, ◌+◌, ◌-◌, ◌*◌, ◌≤◌, ◌<◌}
+use Prim.Native.Nat.{ℕ, suc, ◌+◌, ◌-◌, ◌*◌, ◌≤◌, ◌<◌}
 use native.Mathlib.Omega.{arith}
-use Rattle.std.proofs.Math.ListN.{length}
 use Rattle.laws.specs.Bool.{when◌then◌else◌, if_true, if_false, split, either}
 use Rattle.laws.specs.Settle.{settle, Settling, settle_rests, settled, settle_next}
 use Rattle.laws.specs.First.{first}
@@ -35,7 +35,7 @@ use Rattle.model.specs.declared.moves.Move.{Move}
 use Rattle.workflow.specs.Code.{none}
 use Rattle.workflow.specs.declared.refusal.Refusal.{Refusal}
 use Rattle.model.specs.Store.{listed as stored_as, stored, first_signal, signal_at, removed, leaves_over, left_over, emptied}
-use Rattle.model.specs.Step.{still, no_mapping, arrival, enter, follow_to, route_limited, route, take_by, take as take_signal}
+use Rattle.model.specs.Step.{still, arrival, enter, follow_to, route_limited, route, take_by, take as take_signal}
 use Rattle.model.specs.EnterLaws.{NoNode, entering}
 use Rattle.model.specs.RouteLaws.{consumed, taking}
 use Rattle.kernel.specs.Cost.{cost, takes, entered}
@@ -78,14 +78,14 @@ enters_none (Wants n i b) h = refl
 enters_none (Refuse k) h = refl
 
 abbrev entered_by : Move → Move → Round
-entered_by t e = record { state = e.state; next = e.next; note = t.note; ending = t.ending; order = e.order; read = e.read; microsteps = takes t.ending + entries t.next }
+entered_by t e = record { made = record { state = e.state; next = e.next; note = t.note; ending = t.ending; order = e.order; read = e.read }; microsteps = takes t.ending + entries t.next }
 
 unfoldable pub round_of : Workflow → State → Next → BufferedSignal → Mappings → Round
 round_of f s n x m = entered_by (taking f s n x) (entering f (taking f s n x).state (taking f s n x).next m)
 
 -- The event's move, which is no microstep.
 abbrev pub at_first : Move → Round
-at_first v = record { state = v.state; next = v.next; note = v.note; ending = v.ending; order = v.order; read = v.read; microsteps = 0 }
+at_first v = record { made = v; microsteps = 0 }
 
 -- No move follows: nothing comes next, or the store is to be consumed and is empty.
 unfoldable pub is_over : Next → (stored : ℕ) → Bool
@@ -149,32 +149,10 @@ decide ns es s (code.Answer.Next o j) = when leaves_over s.status s.signal_count
 decide ns es s (code.Answer.Wants t i b) = decision_of (wants t i b s)
 decide ns es s (code.Answer.Refused r i) = decision_of (call.refused r i)
 
--- The operations of the answers that were read.
-module _ (xs : List Mapping) (two : length xs ≡ 2) where
-  pub operations_none : (k : ℕ) → k ≡ 0 → 0 ≡ operations_of (take k xs)
-  unfolding operations_of
-  operations_none k h = rw h
-
-  pub operations_one : (k : ℕ) → k ≡ 1 → (get_or xs 0 no_mapping).operations ≡ operations_of (take k xs)
-  unfolding operations_of
-  operations_one k h = rw h (one xs two)
-    where
-      one : (ys : List Mapping) → length ys ≡ 2 → (get_or ys 0 no_mapping).operations ≡ operations_of (take 1 ys)
-      one [] z = absurd (omega arith)
-      one (y ∷ ys) z = omega arith
-
-  pub operations_two : (k : ℕ) → 2 ≤ k → (get_or xs 0 no_mapping).operations + (get_or xs 1 no_mapping).operations ≡ operations_of (take k xs)
-  unfolding operations_of
-  operations_two k h =
-      let e : k ≡ suc (suc (k - 2)) = omega arith in
-      rw e (both xs (k - 2) two)
-    where
-      both : (ys : List Mapping) (i : ℕ) → length ys ≡ 2 → (get_or ys 0 no_mapping).operations + (get_or ys 1 no_mapping).operations ≡ operations_of (take (suc (suc i)) ys)
-      both [] i z = absurd (omega arith)
-      both (y ∷ []) i z = absurd (omega arith)
-      both (y ∷ (z ∷ [])) zero h = omega arith
-      both (y ∷ (z ∷ [])) (suc i) h = omega arith
-      both (y ∷ (z ∷ (w ∷ ys))) i h = absurd (omega arith)
+pub operations_sum : (xs : List Mapping) → sum_by (λ (x : Mapping). x.operations) xs ≡ operations_of xs
+unfolding operations_of
+operations_sum [] = refl
+operations_sum (x ∷ xs) = sum_by-cons (λ (y : Mapping). y.operations) x xs ∙ rw (operations_sum xs)
 
 -- WHAT A TAKING SAYS: it ends its signal, orders nothing and reads no mapping answer.
 record Ends (v : Move) : Type 0 where
@@ -235,7 +213,7 @@ module _ (f : Workflow) (l : Limits) (e : Event) (m : Mappings) (v₀ : Round) w
 
   -- the machine after the first move, which applies the event, and when nothing is next
   abbrev begun : Machine
-  begun = machine v₀.state v₀.next v₀.order (added [] v₀.note) (added [] v₀.ending) 0 (0 + read_by v₀.read)
+  begun = machine v₀.made.state v₀.made.next v₀.made.order (added [] v₀.made.note) (added [] v₀.made.ending) 0 (0 + read_by v₀.made.read)
 
   abbrev pub at_end : Machine
   at_end = settle (is_moving f limit e m) (advance f limit e m) 131 begun
@@ -250,7 +228,7 @@ module _ (f : Workflow) (l : Limits) (e : Event) (m : Mappings) (v₀ : Round) w
 
   -- The first move leaves room for what follows, and is no microstep.
   pub record Begins : Type 0 where
-    pub bounds : Bounds v₀.next 131 begun
+    pub bounds : Bounds v₀.made.next 131 begun
     pub uncounted : v₀.microsteps ≡ 0
 
   pub begins : (s : State) → s.signal_count ≤ 64
@@ -340,13 +318,13 @@ module _ (f : Workflow) (l : Limits) (e : Event) (m : Mappings) (v₀ : Round) w
 
   module _ (s : State) (ns : List Note) (es : List Ending) (j q : ℕ) (within : j ≤ limit) where
     abbrev listing : Round → Machine
-    listing u = machine u.state u.next u.order (added ns u.note) (added es u.ending) (j + u.microsteps) (q + read_by u.read)
+    listing u = machine u.made.state u.made.next u.made.order (added ns u.made.note) (added es u.made.ending) (j + u.microsteps) (q + read_by u.made.read)
 
     record Turn (n : Next) (u : Round) : Type 0 where
       fine : j + u.microsteps ≤ limit → Going (listing u)
       over : limit < j + u.microsteps → Over
       small : u.microsteps ≤ cost n s.signal_count
-      quiet : u.microsteps ≡ 0 → going_on u.next ≡ 0
+      quiet : u.microsteps ≡ 0 → going_on u.made.next ≡ 0
 
     -- A signal is taken, by the move t.
     turn_taken : (n : Next) (o : Option Order) (t : Move) → Ends t → Going (machine s n o ns es j q) → moves_on f limit e m n ≡ true
@@ -435,7 +413,7 @@ module _ (f : Workflow) (l : Limits) (e : Event) (m : Mappings) (v₀ : Round) w
 
   -- THE TURNS of the loop that may still come, with a round that is made but not counted.
   abbrev pub left_of : Round → (microsteps : ℕ) → ℕ
-  left_of v j = 2 * (131 - (j + v.microsteps)) + going_on v.next
+  left_of v j = 2 * (131 - (j + v.microsteps)) + going_on v.made.next
 
   -- What stands at the head of the loop: the lists, and a round that is made but neither counted nor listed.
   pub record Driving (v : Round) (notes : Listed Note) (endings : Listed Ending) (operations microsteps : ℕ) : Type 0 where
@@ -443,7 +421,7 @@ module _ (f : Workflow) (l : Limits) (e : Event) (m : Mappings) (v₀ : Round) w
     pub es : List Ending
     pub notes_are : notes ≡ listed ns
     pub endings_are : endings ≡ listed es
-    pub going : microsteps + v.microsteps ≤ limit → Going (machine v.state v.next v.order (added ns v.note) (added es v.ending) (microsteps + v.microsteps) (operations + read_by v.read))
+    pub going : microsteps + v.microsteps ≤ limit → Going (machine v.made.state v.made.next v.made.order (added ns v.made.note) (added es v.made.ending) (microsteps + v.microsteps) (operations + read_by v.made.read))
     pub over : limit < microsteps + v.microsteps → Over
     pub steps : microsteps + v.microsteps ≤ 130
     pub few : operations + left_of v microsteps * 8589934592 ≤ 263 * 8589934592
@@ -454,14 +432,14 @@ module _ (f : Workflow) (l : Limits) (e : Event) (m : Mappings) (v₀ : Round) w
     pub es : List Ending
     pub notes_are : notes ≡ listed ns
     pub endings_are : endings ≡ listed es
-    pub going : Going (machine v.state v.next v.order ns es microsteps operations)
+    pub going : Going (machine v.made.state v.made.next v.made.order ns es microsteps operations)
     pub within : microsteps ≤ limit
-    pub few : operations + (2 * (131 - microsteps) + going_on v.next) * 8589934592 ≤ 264 * 8589934592
+    pub few : operations + (2 * (131 - microsteps) + going_on v.made.next) * 8589934592 ≤ 264 * 8589934592
 
   pub driving_first : {notes : Listed Note} {endings : Listed Ending} → notes ≡ listed [] → endings ≡ listed [] → Begins → Driving v₀ notes endings 0 0
   driving_first h k b =
       let z = b.uncounted in
-      let g = going_small v₀.next in
+      let g = going_small v₀.made.next in
       record {
         ns = [];
         es = [];
@@ -475,18 +453,18 @@ module _ (f : Workflow) (l : Limits) (e : Event) (m : Mappings) (v₀ : Round) w
 
   -- The round is counted and listed.
   module _ {v : Round} {notes : Listed Note} {endings : Listed Ending} {q j : ℕ} (d : Driving v notes endings q j) (w : j + v.microsteps ≤ limit) where
-    pub note_room : notes.count + takes v.note ≤ 65
-    note_room = omega (arith, counted_is notes d.ns d.notes_are, length_added d.ns v.note, (d.going w).bounds.few_notes)
+    pub note_room : notes.count + takes v.made.note ≤ 65
+    note_room = omega (arith, counted_is notes d.ns d.notes_are, length_added d.ns v.made.note, (d.going w).bounds.few_notes)
 
-    pub ending_room : endings.count + takes v.ending ≤ 65
-    ending_room = omega (arith, counted_is endings d.es d.endings_are, length_added d.es v.ending, (d.going w).bounds.few_endings)
+    pub ending_room : endings.count + takes v.made.ending ≤ 65
+    ending_room = omega (arith, counted_is endings d.es d.endings_are, length_added d.es v.made.ending, (d.going w).bounds.few_endings)
 
-    pub counted : {a : Listed Note} {b : Listed Ending} → ((xs : List Note) → notes ≡ listed xs → a ≡ listed (added xs v.note)) → ((xs : List Ending) → endings ≡ listed xs → b ≡ listed (added xs v.ending))
-        → {r : ℕ} → r ≡ read_by v.read → r ≤ 8589934592 → Counted v a b (q + r) (j + v.microsteps)
+    pub counted : {a : Listed Note} {b : Listed Ending} → ((xs : List Note) → notes ≡ listed xs → a ≡ listed (added xs v.made.note)) → ((xs : List Ending) → endings ≡ listed xs → b ≡ listed (added xs v.made.ending))
+        → {r : ℕ} → r ≡ read_by v.made.read → r ≤ 8589934592 → Counted v a b (q + r) (j + v.microsteps)
     counted x y h z =
         record {
-          ns = added d.ns v.note;
-          es = added d.es v.ending;
+          ns = added d.ns v.made.note;
+          es = added d.es v.made.ending;
           notes_are = x d.ns d.notes_are;
           endings_are = y d.es d.endings_are;
           going = rw h (d.going w);
@@ -496,21 +474,21 @@ module _ (f : Workflow) (l : Limits) (e : Event) (m : Mappings) (v₀ : Round) w
 
   module _ {v : Round} {notes : Listed Note} {endings : Listed Ending} {q j : ℕ} (d : Counted v notes endings q j) where
     -- A round follows.
-    module _ (u : Round) (is : u ≡ round_of f v.state v.next (arrival e) m) (on : is_over v.next v.state.signal_count ≡ false) where
-      the_turn : Turn v.state d.ns d.es j q d.within v.next u
-      the_turn = rw is (turn v.state d.ns d.es j q d.within v.next v.order d.going on)
+    module _ (u : Round) (is : u ≡ round_of f v.made.state v.made.next (arrival e) m) (on : is_over v.made.next v.made.state.signal_count ≡ false) where
+      the_turn : Turn v.made.state d.ns d.es j q d.within v.made.next u
+      the_turn = rw is (turn v.made.state d.ns d.es j q d.within v.made.next v.made.order d.going on)
 
       next_steps : j + u.microsteps ≤ 130
       next_steps = omega (arith, the_turn.small, d.going.bounds.steps)
 
-      goes_on : going_on v.next ≡ 1
-      goes_on = not_over v.next v.state.signal_count on
+      goes_on : going_on v.made.next ≡ 1
+      goes_on = not_over v.made.next v.made.state.signal_count on
 
-      pub left_less : left_of u j < 2 * (131 - j) + going_on v.next
+      pub left_less : left_of u j < 2 * (131 - j) + going_on v.made.next
       left_less =
           let p = next_steps in
           let b = goes_on in
-          let g = going_small u.next in
+          let g = going_small u.made.next in
           split (eqb u.microsteps 0) (λ h. omega (arith, the_turn.quiet (eqb-true _ _ h), eqb-true u.microsteps 0 h)) (λ h. omega (arith, eqb-false u.microsteps 0 h))
 
       pub driving_next : Driving u notes endings q j
@@ -526,5 +504,5 @@ module _ (f : Workflow) (l : Limits) (e : Event) (m : Mappings) (v₀ : Round) w
             few = omega (arith, left_less, d.few);
           }
 
-    pub few_left : endings.count + v.state.signal_count ≤ 65
+    pub few_left : endings.count + v.made.state.signal_count ≤ 65
     few_left = omega (arith, counted_is endings d.es d.endings_are, d.going.bounds.few_endings)

@@ -15,23 +15,17 @@ use crate::{Decision, Limits};
 use machine::events::arrival;
 use model::answer::{Answer, Ending, Note, Order};
 use model::event::{Event, Mappings};
-use model::moves::Next;
+use model::moves::{Move, Next};
 use model::store::leaves_over;
 use model::{BufferedSignal, State};
 use workflow::code::NONE;
 use workflow::layout::NUMBERS;
 use workflow::refusal::Refusal;
 
-// What a signal that is taken and the entry that follows make of a call: the record and what comes next, what was said, and how
-// many microsteps these were.
+// A signal that is taken and the entry that follows, told as one move, and how many microsteps these were.
 #[derive(Clone, Copy)]
 struct Round {
-    state: State,
-    next: Next,
-    note: Option<Note>,
-    ending: Option<Ending>,
-    order: Option<Order>,
-    read: u32,
+    made: Move,
     microsteps: u32,
 }
 
@@ -40,15 +34,12 @@ fn operations_of(mappings: Mappings, read: u32) -> u64
     ensures value { result ≡ operations_of (take read mappings.answers) }
     ensures upper_bound { result ≤ 8589934592 }
 {
-    if read == 0 {
-        return 0;
-    }
-    let first = mappings.answers[0].operations;
-    if read == 1 {
-        return u64::from(first);
-    }
-    let second = mappings.answers[1].operations;
-    u64::from(first) + u64::from(second)
+    mappings
+        .answers
+        .iter()
+        .take(read as usize)
+        .map(|answer| u64::from(answer.operations))
+        .sum()
 }
 
 // A signal that ended was taken.
@@ -78,12 +69,11 @@ fn take_and_enter(
     let taken = state.take(w, next, arrived);
     let entered = taken.state.enter(w, taken.next, mappings);
     Round {
-        state: entered.state,
-        next: entered.next,
-        note: taken.note,
-        ending: taken.ending,
-        order: entered.order,
-        read: entered.read,
+        made: Move {
+            note: taken.note,
+            ending: taken.ending,
+            ..entered
+        },
         microsteps: takes(taken.ending) + entries(taken.next),
     }
 }
@@ -103,6 +93,7 @@ fn order_count(order: Option<Order>) -> u32
 }
 
 // At rest: 29 orders over the command limit, then 30 operations over theirs.
+// Kept: NONE, here and below: document 01 gives 255 as the item of a refusal that has none (a).
 fn rest_answer(order: Option<Order>, limits: Limits, microsteps: u32, operations: u64) -> Answer
     ensures { result ≡ rest_answer order limits microsteps operations }
 {
@@ -166,6 +157,7 @@ pub fn refusal(refusal: Refusal, item: u32) -> Decision
 }
 
 // The close: what is still stored is left over, behind the other endings, and the store is empty.
+// Kept: the store's bound in three functions, this, decide and drive: a call takes a record with any count, and refuses it with 25, so State can't hold it (a).
 fn close(
     notes: Listed<Note>,
     mut endings: Listed<Ending>,
@@ -231,14 +223,14 @@ fn run(
         if limits.microsteps < microsteps {
             return refusal(Refusal::MicrostepsExceeded, NONE);
         }
-        notes.add(v.note);
-        endings.add(v.ending);
-        operations += operations_of(mappings, v.read);
-        if is_over(v.next, v.state.signal_count) {
-            let answer = answer_of(v.next, v.order, limits, microsteps, operations);
-            return decide(notes, endings, answer, v.state);
+        notes.add(v.made.note);
+        endings.add(v.made.ending);
+        operations += operations_of(mappings, v.made.read);
+        if is_over(v.made.next, v.made.state.signal_count) {
+            let answer = answer_of(v.made.next, v.made.order, limits, microsteps, operations);
+            return decide(notes, endings, answer, v.made.state);
         }
-        v = take_and_enter(w, v.state, v.next, arrival(event), mappings);
+        v = take_and_enter(w, v.made.state, v.made.next, arrival(event), mappings);
     }
 }
 
@@ -255,12 +247,7 @@ pub fn drive(
 {
     let applied = machine::apply(w, s, event);
     let first = Round {
-        state: applied.state,
-        next: applied.next,
-        note: applied.note,
-        ending: applied.ending,
-        order: applied.order,
-        read: applied.read,
+        made: applied,
         microsteps: 0,
     };
     run(w, first, limits, event, mappings)

@@ -1,15 +1,13 @@
-use native.Mathlib.Omega.{arith}
-use mathlib.Core.Path.{◌∙◌}
-use Rattle.laws.specs.Arrays.{length_field}
-use Rattle.kernel.specs.DriveLaws.{operations_none, operations_one, operations_two}
-use Rattle.std.proofs.Common.{rules}
+use Rattle.std.specs.Prelude.{take}
+use Rattle.std.proofs.Common.{rules, ◌∙◌}
+use Rattle.std.proofs.lemmas.Iterator.{YieldsList-from_slice, YieldsList-from_map, YieldsList-from_take}
+use Rattle.std.proofs.lemmas.Iterator.Consumers.{YieldsList-at, sum_by_from_yields_List}
+use Rattle.model.specs.declared.event.Mapping.{Mapping}
+use Rattle.kernel.specs.DriveLaws.{operations_sum}
 use Rattle.kernel.proofs.drive.operations_of.Goals as goal
 
-pub returns-then-read-eq0 : goal.returns-then-read-eq0
-returns-then-read-eq0 c = record { value = operations_none c.args.mappings.answers (search (rules, length_field)) c.args.read c.if-read-eq0.true; upper_bound = omega arith }
-
-pub returns-then-read-eq1 : goal.returns-then-read-eq1
-returns-then-read-eq1 c = record { value = c.from.ensures ∙ operations_one c.args.mappings.answers (search (rules, length_field)) c.args.read c.if-read-eq1.true; upper_bound = omega (arith, c.from.ensures) }
-
-pub returns : goal.returns
-returns c = record { value = rw (c.from-2.ensures, c.from-3.ensures) (operations_two c.args.mappings.answers (search (rules, length_field)) c.args.read (omega (arith, c.if-read-eq0.false, c.if-read-eq1.false))); upper_bound = omega (arith, c.from-2.ensures, c.from-3.ensures) }
+pub returns-clause-value : goal.returns-clause-value
+returns-clause-value c =
+    let answers = c.args.mappings.answers in
+    let read = YieldsList-at c.map.ensures.source (YieldsList-from_take c.args.read (YieldsList-from_slice answers (search rules)) (search rules)) in
+    sum_by_from_yields_List _ _ c.map.result _ c.sum.ensures.ran (YieldsList-from_map _ (λ (x : Mapping). x.operations) read c.map.ensures.closure (λ x r q k. search rules)) ∙ operations_sum (take c.args.read answers)
