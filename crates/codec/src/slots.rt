@@ -95,6 +95,8 @@ impl Slot {
 // Kept: k and one stand beside the numbers here and below, since a caller's may be more than those of k slots. With a struct
 // `slots_tidy(&r[place..], STREAK, NODES)` is `Slots { numbers: &r[place..], one: STREAK, k: NODES }.tidy()`, in each of six calls, and the
 // room is proved there as it is now (d).
+// Kept: four functions. Each is a loop around one call, of read, tidy, size or write: one for all would take that call as a closure, which reads or
+// writes lent bytes, adds a number, or ends the loop early (d).
 
 // Slots, k of them, from bytes into an array that is zero.
 pub fn read_slots(bytes: &[u8], start: usize, out: &mut [u64], one: Slot, k: usize) -> Option<usize>
