@@ -106,7 +106,7 @@ pub fn read_slots(bytes: &[u8], start: usize, out: &mut [u64], one: Slot, k: usi
 {
     let mut at = start;
     let mut first: usize = 0;
-    // Kept: a loop over places, since what is read so far is a claim of the whole array, and chunks_exact_mut hands out parts of it (d).
+    // Kept: a loop over places. With chunks_exact_mut each part is read, but the proof has no name for what the array then holds as a whole (c).
     for _n in 0..k {
         let end = one.end(first);
         at = one.read(bytes, at, &mut out[first..end])?;
