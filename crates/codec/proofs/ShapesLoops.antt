@@ -144,57 +144,82 @@ module _ {xs : List ℕ} {rest : Shape} {i : ℕ} (inv : Ahead xs rest i) where
       let t = both _ _ (rw (neat_next xs i rest one more width next wide) at inv.tidy) in
       record { room = omega arith; tidy = t.0; ahead = record { room = omega arith; tidy = t.1 } }
 
--- A LOOP THAT WRITES. The bytes so far stand in the list, which was before, from at on; those of the shape that is left come behind them.
-pub record WritingShapes (whole before : List ℕ) (at : ℕ) (xs : List ℕ) (rest : Shape) (i place : ℕ) (list : List ℕ) : Type 0 where
+-- A LOOP THAT WRITES. The bytes so far stand in the list, which was before, from at on; those that are left come behind them.
+pub record Writing (whole before : List ℕ) (at : ℕ) (rest : List ℕ) (place : ℕ) (list : List ℕ) : Type 0 where
   pub so_far : List ℕ
-  pub left : so_far ++ written xs rest i ≡ whole
+  pub left : so_far ++ rest ≡ whole
   pub is : list ≡ splice before at so_far
   pub there : place ≡ at + length so_far
   pub fits : at + length whole ≤ length before
 
-pub writing_start : (before : List ℕ) (at : ℕ) (xs : List ℕ) (shape : Shape) (i : ℕ) → at + length (written xs shape i) ≤ length before → WritingShapes (written xs shape i) before at xs shape i at before
-writing_start before at xs shape i h = record { so_far = []; left = refl; is = sym (splice_none before at); there = omega arith; fits = h }
+pub all_left : (before : List ℕ) (at : ℕ) (whole : List ℕ) → at + length whole ≤ length before → Writing whole before at whole at before
+all_left before at whole h = record { so_far = []; left = refl; is = sym (splice_none before at); there = omega arith; fits = h }
 
-module _ {whole before : List ℕ} {at : ℕ} {xs : List ℕ} {rest : Shape} {i place : ℕ} {list : List ℕ} (inv : WritingShapes whole before at xs rest i place list) where
-  sizes : length inv.so_far + length (written xs rest i) ≡ length whole
-  sizes = sym (length-append inv.so_far (written xs rest i)) ∙ ap length inv.left
+module _ {whole before : List ℕ} {at : ℕ} {rest : List ℕ} {place : ℕ} {list : List ℕ} (inv : Writing whole before at rest place list) where
+  sizes : length inv.so_far + length rest ≡ length whole
+  sizes = sym (length-append inv.so_far rest) ∙ ap length inv.left
 
-  pub writing_long : length list ≡ length before
-  writing_long = let s = sizes in let f = inv.fits in rw inv.is (length_splice before at inv.so_far (omega arith))
+  pub long_still : length list ≡ length before
+  long_still = let s = sizes in let f = inv.fits in rw inv.is (length_splice before at inv.so_far (omega arith))
 
-  module _ (one : Shape) (more : List ℕ → Shape) (width : ℕ) (next : rest ≡ beside one more width) (wide : (more (held xs one i)).width ≡ width) where
-    pub writing_room : place + length (written xs one i) ≤ length list
-    writing_room =
-        let s = rw (written_next xs i rest one more width next wide, length-append) at sizes in
-        let n = writing_long in
+  -- these bytes are next, and others behind them
+  module _ (new more : List ℕ) (next : rest ≡ new ++ more) where
+    pub new_fits : place + length new ≤ length list
+    new_fits =
+        let s = rw (next, length-append) at sizes in
+        let n = long_still in
         let f = inv.fits in
         let t = inv.there in
         omega arith
 
-    pub writing_more : {after : List ℕ} {p : ℕ} → p ≡ place + length (written xs one i) → after ≡ splice list place (written xs one i) → WritingShapes whole before at xs (more (held xs one i)) (i + one.width) p after
-    writing_more {after} {p} e f =
-        let new = written xs one i in
-        let s = rw (written_next xs i rest one more width next wide, length-append) at sizes in
+    pub one_more : {after : List ℕ} {p : ℕ} → p ≡ place + length new → after ≡ splice list place new → Writing whole before at more p after
+    one_more {after} {p} e f =
+        let s = rw (next, length-append) at sizes in
         let g = inv.fits in
         let t = inv.there in
         let a = length-append inv.so_far new in
         record {
           so_far = inv.so_far ++ new;
-          left = append_assoc inv.so_far new (written xs (more (held xs one i)) (i + one.width)) ∙ (rw (written_next xs i rest one more width next wide) at inv.left);
+          left = append_assoc inv.so_far new more ∙ (rw next at inv.left);
           is = f ∙ ap (λ (l : List ℕ). splice l place new) inv.is ∙ splice_more before at inv.so_far new place t (omega arith);
           there = omega arith;
           fits = g;
         }
 
-  module _ (none : rest ≡ numbers 0 0) where
+  module _ (none : rest ≡ []) where
     all_written : inv.so_far ≡ whole
-    all_written = sym (append-nil inv.so_far) ∙ (rw (written_none xs i rest none) at inv.left)
+    all_written = sym (append-nil inv.so_far) ∙ (rw none at inv.left)
 
+    pub last_place : place ≡ at + length whole
+    last_place = inv.there ∙ ap (λ (l : List ℕ). at + length l) all_written
+
+    pub last_list : list ≡ splice before at whole
+    last_list = inv.is ∙ ap (splice before at) all_written
+
+-- The same, where the bytes that are left are those of a shape.
+pub record WritingShapes (whole before : List ℕ) (at : ℕ) (xs : List ℕ) (rest : Shape) (i place : ℕ) (list : List ℕ) : Type 0 where
+  pub bytes : Writing whole before at (written xs rest i) place list
+
+pub writing_start : (before : List ℕ) (at : ℕ) (xs : List ℕ) (shape : Shape) (i : ℕ) → at + length (written xs shape i) ≤ length before → WritingShapes (written xs shape i) before at xs shape i at before
+writing_start before at xs shape i h = record { bytes = all_left before at (written xs shape i) h }
+
+module _ {whole before : List ℕ} {at : ℕ} {xs : List ℕ} {rest : Shape} {i place : ℕ} {list : List ℕ} (inv : WritingShapes whole before at xs rest i place list) where
+  pub writing_long : length list ≡ length before
+  writing_long = long_still inv.bytes
+
+  module _ (one : Shape) (more : List ℕ → Shape) (width : ℕ) (next : rest ≡ beside one more width) (wide : (more (held xs one i)).width ≡ width) where
+    pub writing_room : place + length (written xs one i) ≤ length list
+    writing_room = new_fits inv.bytes _ _ (written_next xs i rest one more width next wide)
+
+    pub writing_more : {after : List ℕ} {p : ℕ} → p ≡ place + length (written xs one i) → after ≡ splice list place (written xs one i) → WritingShapes whole before at xs (more (held xs one i)) (i + one.width) p after
+    writing_more e f = record { bytes = one_more inv.bytes _ _ (written_next xs i rest one more width next wide) e f }
+
+  module _ (none : rest ≡ numbers 0 0) where
     pub writing_place : place ≡ at + length whole
-    writing_place = inv.there ∙ ap (λ (l : List ℕ). at + length l) all_written
+    writing_place = last_place inv.bytes (written_none xs i rest none)
 
     pub writing_end : list ≡ splice before at whole
-    writing_end = inv.is ∙ ap (splice before at) all_written
+    writing_end = last_list inv.bytes (written_none xs i rest none)
 
 -- A LOOP THAT COUNTS the bytes.
 pub record CountingShapes (whole : List ℕ) (xs : List ℕ) (rest : Shape) (i size : ℕ) : Type 0 where

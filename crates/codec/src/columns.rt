@@ -42,7 +42,8 @@ pub fn columns_tidy(xs: &[u32], plan: &[Column]) -> bool
     ensures { result ≡ (columns (2 ^ 32) plan.now).tidy (part xs.now 0 (total plan.now)) }
 {
     let mut first: usize = 0;
-    // Kept: a loop, since each column begins where the one before ends, here as in the other three (d).
+    // Kept: a loop, since each column begins where the one before ends, and rooms differ, here as in the other three. They differ in what is done
+    // with a column: a walk of their own would take that as a closure, which reads or writes lent bytes, adds a number, or ends it early (d).
     for column in plan {
         if column.room < column.used {
             return false;

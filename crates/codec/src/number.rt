@@ -15,7 +15,7 @@ pub struct Number {
     pub next: usize,
 }
 
-// Kept: bytes and a place, here and in what reads and writes below: document 01's reader of a slice and a position (a).
+// Kept: bytes and a place, here and in what reads below: document 01's reader of a slice and a position (a).
 
 // The groups behind a first one whose seven bits are low. None: the bytes are bad.
 // Kept: a loop with early answers, since value, scale and place go on together, and a byte that is last, bad or lacking ends them (d).
@@ -228,6 +228,8 @@ pub fn number_size(n: u64) -> usize
 }
 
 // A number's bytes are written from a place on. The place behind them.
+// Kept: bytes and a place go in and the place behind comes out, here and in all that writes: a writer that holds both would be made for each
+// call from outside, and its contracts would say the same two things, of its bytes and of its place (d).
 pub fn write_number(out: &mut [u8], at: usize, n: u64) -> usize
     requires { at + length (leb128 n) ≤ length out.old }
     ensures value { result ≡ at + length (leb128 n) }

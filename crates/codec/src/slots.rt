@@ -1,6 +1,7 @@
 // Slots of a lent array one behind the other: in each some numbers, the lead, and some numbers more. Where the lead is 0, the
 // slot is unused and all of it is 0.
 ghost use Rattle.std.specs.Prelude.{◌≡◌, true, suc, ◌+◌, ◌*◌, ◌^◌, ◌≤◌, ◌<◌, length};
+ghost use Rattle.std.specs.Slice.Iter.{chunks_exact_rest, chunks_exact_size};
 ghost use Rattle.laws.specs.Splice.{splice};
 ghost use Rattle.codec.specs.Numbers.{bytes_of, part};
 ghost use Rattle.codec.specs.Slots.{slot, slots};
@@ -8,6 +9,7 @@ ghost use Rattle.codec.specs.Stored.{place_of, Stored, ZeroFrom};
 
 use crate::number::{field, number_size, write_number};
 use crate::numbers::{numbers_size, numbers_zero, read_numbers, write_numbers};
+use std::slice::ChunksExact;
 
 // How many numbers a slot has before its lead, and how many after it.
 #[derive(Clone, Copy)]
@@ -16,8 +18,8 @@ pub struct Slot {
     pub after: usize,
 }
 
-// Kept: how many numbers a slot has, in each method below. With a struct `one.size(&xs[first..end])` is `One { slot: one, numbers:
-// &xs[first..end] }.size()`, and the length is proved there as it is now (d).
+// Kept: how many numbers a slot has, in each method below. With a struct `one.size(slot)` is `One { slot: one, numbers: slot }.size()`, and the
+// length is proved there as it is now (d).
 impl Slot {
     // Where the slot that begins at a place ends.
     fn end(self, first: usize) -> usize
@@ -25,6 +27,17 @@ impl Slot {
         ensures { result ≡ first + (self.before + suc self.after) }
     {
         first + self.before + 1 + self.after
+    }
+
+    // The first slots, k of them. Where k is 0, the width may be past 64 bits.
+    fn slots_of(self, xs: &[u64], k: usize) -> ChunksExact<'_, u64>
+        requires { (self.before + suc self.after) * k ≤ length xs.now }
+        ensures rest { chunks_exact_rest result ≡ part xs.now 0 ((self.before + suc self.after) * k) }
+        ensures size { 0 < k → chunks_exact_size result ≡ self.before + suc self.after }
+        ensures positive { 0 < chunks_exact_size result }
+    {
+        let width = self.before.saturating_add(self.after).saturating_add(1);
+        xs[..width * k].chunks_exact(width)
     }
 
     // One slot from bytes into zeros.
@@ -82,6 +95,8 @@ impl Slot {
 // Kept: k and one stand beside the numbers here and below, since a caller's may be more than those of k slots. With a struct
 // `slots_tidy(&r[place..], STREAK, NODES)` is `Slots { numbers: &r[place..], one: STREAK, k: NODES }.tidy()`, in each of six calls, and the
 // room is proved there as it is now (d).
+// Kept: four functions. Each is a loop around one call, of read, tidy, size or write: one for all would take that call as a closure, which reads or
+// writes lent bytes, adds a number, or ends the loop early (d).
 
 // Slots, k of them, from bytes into an array that is zero.
 pub fn read_slots(bytes: &[u8], start: usize, out: &mut [u64], one: Slot, k: usize) -> Option<usize>
@@ -91,6 +106,7 @@ pub fn read_slots(bytes: &[u8], start: usize, out: &mut [u64], one: Slot, k: usi
 {
     let mut at = start;
     let mut first: usize = 0;
+    // Kept: a loop over places. With chunks_exact_mut each part is read, but the proof has no name for what the array then holds as a whole (c).
     for _n in 0..k {
         let end = one.end(first);
         at = one.read(bytes, at, &mut out[first..end])?;
@@ -104,14 +120,10 @@ pub fn slots_tidy(xs: &[u64], one: Slot, k: usize) -> bool
     requires { (one.before + suc one.after) * k ≤ length xs.now }
     ensures { result ≡ (slots (2 ^ 64) one.before one.after k).tidy (part xs.now 0 ((one.before + suc one.after) * k)) }
 {
-    // Kept: a loop, since each slot begins where the one before ends, here as in the other three (d).
-    let mut first: usize = 0;
-    for _n in 0..k {
-        let end = one.end(first);
-        if !one.tidy(&xs[first..end]) {
+    for slot in one.slots_of(xs, k) {
+        if !one.tidy(slot) {
             return false;
         }
-        first = end;
     }
     true
 }
@@ -122,11 +134,8 @@ pub fn slots_size(xs: &[u64], one: Slot, k: usize) -> usize
     ensures { result ≡ length (bytes_of ((slots (2 ^ 64) one.before one.after k).fields (part xs.now 0 ((one.before + suc one.after) * k)))) }
 {
     let mut size: usize = 0;
-    let mut first: usize = 0;
-    for _n in 0..k {
-        let end = one.end(first);
-        size += one.size(&xs[first..end]);
-        first = end;
+    for slot in one.slots_of(xs, k) {
+        size += one.size(slot);
     }
     size
 }
@@ -139,11 +148,8 @@ pub fn write_slots(out: &mut [u8], at: usize, xs: &[u64], one: Slot, k: usize) -
     ensures out_after { out.new ≡ splice out.old at (bytes_of ((slots (2 ^ 64) one.before one.after k).fields (part xs.now 0 ((one.before + suc one.after) * k)))) }
 {
     let mut place = at;
-    let mut first: usize = 0;
-    for _n in 0..k {
-        let end = one.end(first);
-        place = one.write(out, place, &xs[first..end]);
-        first = end;
+    for slot in one.slots_of(xs, k) {
+        place = one.write(out, place, slot);
     }
     place
 }

@@ -397,7 +397,7 @@ module _ {w : List ℕ} {n a b : ℕ} (g : Group w layout.route_node (route_rows
       found_first (is_route n o) (λ x. x.target) 0 (workflow w).routes
       ∙ among routes_up g (is_route n o) (route_at w) layout.route_outcome (λ x. eqb x o) (λ j l. rw (route_row w j l))
 
-  routed_marked : (o : ℕ) → o < 256 → get_or (marked (span (cell w layout.route_outcome) a b)) o false ≡ routed (workflow w) n o
+  pub routed_marked : (o : ℕ) → o < 256 → get_or (marked (span (cell w layout.route_outcome) a b)) o false ≡ routed (workflow w) n o
   routed_marked o h =
       let u = ordered routes_up g in
       marked_has w layout.route_outcome a b o u (part_small routes_up g layout.route_outcome (route_outcome_small w g.formed)) h

@@ -58,6 +58,12 @@ the_cut {p} {k} x =
     let v = not_under (cuts p k) x in
     omega arith
 
+same_cut : (p q : ℕ → Bool) (k : ℕ) → ((j : ℕ) → j < k → p j ≡ q j) → cut p k ≡ cut q k
+same_cut p q k s =
+    let x = cuts p k in
+    let u = x.within in
+    the_cut (record { within = x.within; below = λ j h. sym (s j (omega arith)) ∙ x.below j h; fails = λ h. sym (s _ h) ∙ x.fails h })
+
 -- THE ORDER OF PAIRS.
 data Ascends (n o n' o' : ℕ) : Type 0 where
   by_node : n < n' → Ascends n o n' o'
@@ -119,9 +125,27 @@ module _ {A : Type 0} (r : A → A → Bool) (f : ℕ → A) (k : ℕ) where
         rw z (far (j - (i + 1)) i (omega arith))
 
 -- ROWS BY COLUMN.
--- The number of rows below a key.
+-- The number of rows before a pair, and before a key.
+unfoldable pub rows_before : List ℕ → (major minor count x y : ℕ) → ℕ
+rows_before w a b k x y = cut (λ j. ascends (cell w a j) (cell w b j) x y) k
+
 unfoldable pub rows_below : List ℕ → (start count key : ℕ) → ℕ
 rows_below w c k n = cut (λ j. ltb (cell w c j) n) k
+
+pub rows_before_cuts : (w : List ℕ) (a b k x y : ℕ) → Cut (λ j. ascends (cell w a j) (cell w b j) x y) k (rows_before w a b k x y)
+unfolding rows_before
+rows_before_cuts w a b k x y = cuts _ k
+
+-- Before (x, 0) stands what is below x.
+before_first : (n o x : ℕ) → ascends n o x 0 ≡ ltb n x
+unfolding ascends ◌or◌ ◌and◌
+before_first n o x =
+    split (ltb n x) (λ h. rw h)
+    (λ h. rw (h, le-ltb o 0 (omega arith)) (split (eqb n x) (λ e. rw e) (λ e. rw e)))
+
+pub below_before : (w : List ℕ) (a b k x : ℕ) → rows_before w a b k x 0 ≡ rows_below w a k x
+unfolding rows_before rows_below
+below_before w a b k x = same_cut _ _ k (λ j h. before_first (cell w a j) (cell w b j) x)
 
 pub rows_below_within : (w : List ℕ) (c k n : ℕ) → rows_below w c k n ≤ k
 unfolding rows_below

@@ -129,7 +129,8 @@ fn rows_rise(w: &[u32; NUMBERS], key: usize, count: usize) -> bool
 }
 
 // All rows of a sort, in their order.
-// Kept: five functions, since each names its count, its order and its row's test; one function of these four would take them as parameters (d).
+// Kept: five functions. One would take the place of a count, its room, the order (none, ascending by two columns, or rising by one) and the row's
+// test, and each of its five calls would name all four, as these bodies do (d).
 
 fn nodes_formed(w: &[u32; NUMBERS]) -> bool
     ensures { result ≡ nodes_formed (workflow w.now) }

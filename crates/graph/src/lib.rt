@@ -29,6 +29,7 @@ pub struct Ceilings {
 #[derive(Clone, Copy, Debug, PartialEq, Eq)]
 pub struct Broken<R = Refusal> {
     pub refusal: R,
+    // Kept: a number, 255 for none: document 01 gives 255 as the item of a refusal that has none (a).
     pub item: u32,
 }
 

@@ -8,6 +8,7 @@ pub mod Shift
 pub mod Listing
 pub mod Settle
 pub mod Arrays
+pub mod Tests
 pub mod Splice
 pub mod Zeros
 pub mod Chains

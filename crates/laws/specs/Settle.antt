@@ -27,6 +27,11 @@ module _ {A : Type 0} {go : A → Bool} {step : A → A} {w : A} {k : ℕ} {x : 
   pub settled : {b : Bool} → b ≡ go x → b ≡ false → x ≡ w
   settled e h = sym (settle_rests go step k x (sym e ∙ h)) ∙ inv.left
 
+  -- no step is left
+  pub settle_out : k ≡ 0 → x ≡ w
+  unfolding settle
+  settle_out e = rw e at inv.left
+
   -- y is the next state
   pub settle_next : {b : Bool} {y : A} → 0 < k → b ≡ go x → b ≡ true → y ≡ step x → Settling go step w (k - 1) y
   unfolding settle when◌then◌else◌

@@ -1,7 +1,8 @@
 // The numbers of a sheet in document 01.
 // Kept: numbers, since sheets are lent as numbers, and every number there has an answer: an enum would take fewer (a).
 
-// No node; an absent outcome.
+// No node; an absent outcome; the item of a refusal that has none.
+// Kept: a number, in what is handed out too: document 01 gives 255 for none there (a).
 pub const NONE: u32 = 255;
 
 // Formats of a sheet: 2 is the 0.2 document.

@@ -135,8 +135,8 @@ pub fn no_node() -> Node
 }
 
 // The lookups, over the rows that are counted.
-// Kept: those of nodes and actions, and of routes, limits and outcomes, name only their columns and what they answer without a row; what the
-// last three share is `find_row` (d).
+// Kept: node_of and policy_of name their count, its room, their row and what they answer without one; find_route, find_limit and declares their
+// count, its room and columns, and what they share is `find_row`. One function for two of them would take just these as parameters (d).
 
 pub fn node_of(w: &[u32; NUMBERS], id: u32) -> Node
     ensures { result ≡ node_of (workflow w.now) id }
