@@ -35,6 +35,7 @@ const BLANK: Event = Event {
 };
 
 // A mapping answer of no kind.
+// Kept: zeros by hand, here and above, since the library's events and mapping answers have no `Default` (d).
 const NO_MAPPING: Mapping = Mapping {
     kind: 0,
     value: 0,
@@ -197,6 +198,7 @@ impl Run<'_> {
         }
     }
 
+    // Kept: `rt` and `what` are parameters; `rt` as a field would make `Run` generic, with no line fewer (d).
     // One call, shown. The record of an accepted call stands from then on; any other leaves the run as it was.
     fn go(&mut self, rt: &impl Print, what: &str, event: Event) -> io::Result<()> {
         let decision = kernel::transition(self.sheet, self.record, call_with(event));

@@ -4,6 +4,8 @@
 use host::layout;
 use std::io::{BufWriter, Read, Write};
 use std::{fmt, io};
+use workflow::code::NONE;
+use workflow::refusal::Refusal;
 
 const ANSWER: usize = layout::ANSWER;
 
@@ -101,6 +103,7 @@ fn run<W: Write>(to: &mut W, xs: &[u64; ANSWER]) -> io::Result<()> {
     nodes(to, "output", outputs, 2)
 }
 
+// Kept: an order's kind is a number of the layout, which the library writes but doesn't read back (a).
 fn order<W: Write>(to: &mut W, xs: &[u64; ANSWER]) -> io::Result<()> {
     let order = &xs[layout::ANSWER_ORDER_NODE..layout::ANSWER_NOTED];
     match xs[layout::ANSWER_ORDER] {
@@ -139,6 +142,7 @@ fn want<W: Write>(to: &mut W, xs: &[u64; ANSWER]) -> io::Result<()> {
     hexadecimal(to, xs)
 }
 
+// Kept: so is an answer's kind (a).
 fn show<W: Write>(to: &mut W, xs: &[u64; ANSWER]) -> io::Result<()> {
     match xs[layout::ANSWER_KIND] {
         1 => next(to, xs),
@@ -165,7 +169,7 @@ fn main(rt: HostRuntime) -> io::Result<()> {
     let mut out = BufWriter::new(rt.alloc(), rt.stdout())?;
     match decided(&call) {
         Some(answer) => show(&mut out, &answer)?,
-        None => writeln!(out, "refused 31 255")?,
+        None => writeln!(out, "refused {} {NONE}", Refusal::BadBytes.number())?,
     }
     out.flush()
 }

@@ -10,6 +10,8 @@ ghost use Rattle.in_bytes.specs.Boundary.{returned, left, write_sheet, write_run
 
 use workflow::layout::NUMBERS;
 
+// Kept: each export calls its twin, and `sheet_len` stands beside the sheet, whose type doesn't tell it to C (a).
+
 // CALLS IN NUMBERS.
 
 #[unsafe(no_mangle)]

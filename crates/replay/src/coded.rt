@@ -136,11 +136,15 @@ fn answer(alloc: Global, sample: &Sample) -> Result<Vec<u8>, Unwritten> {
 // What the call in bytes says is what the recorded answer says, and past its bytes nothing is written.
 fn agrees(alloc: Global, told: u64, out: &[u8], sample: &Sample) -> Result<bool, Unwritten> {
     let xs = &sample.answer;
-    if sample.answered() == Answered::Refused {
-        return Ok(
-            told % HALF == xs[layout::ANSWER_REFUSAL_NUMBER]
-                && told / HALF == xs[layout::ANSWER_REFUSAL_ITEM],
-        );
+    match sample.answered() {
+        Answered::Next | Answered::Wants => {}
+        Answered::Refused => {
+            return Ok(
+                told % HALF == xs[layout::ANSWER_REFUSAL_NUMBER]
+                    && told / HALF == xs[layout::ANSWER_REFUSAL_ITEM],
+            );
+        }
+        Answered::Unknown => return Ok(false),
     }
     let due = answer(alloc, sample)?;
     let bytes = written(told, out).ok_or(Unwritten::Refused)?;

@@ -7,36 +7,10 @@ mod sample;
 
 use coded::Judged;
 use host::layout;
-use sample::{Answered, BadLine, Kind, Sample};
+use sample::{Answered, Digits, Kind, Sample};
 use std::alloc::{AllocError, Global};
-use std::io::{self, BufRead, BufReader};
+use std::io::{self, BufReader, Read};
 use workflow::layout::NUMBERS as SHEET;
-
-// Why the sample isn't replayed to its end.
-#[derive(Debug, Drop)]
-enum Failure {
-    Input(io::Error),
-    Line,
-    Memory,
-}
-
-impl From<io::Error> for Failure {
-    fn from(error: io::Error) -> Failure {
-        Failure::Input(error)
-    }
-}
-
-impl From<BadLine> for Failure {
-    fn from(_: BadLine) -> Failure {
-        Failure::Line
-    }
-}
-
-impl From<AllocError> for Failure {
-    fn from(_: AllocError) -> Failure {
-        Failure::Memory
-    }
-}
 
 // How many calls there were, by their recorded answers, and how many agree.
 #[derive(Default, Drop)]
@@ -74,7 +48,7 @@ impl Counts {
         match sample.answered() {
             Answered::Next => count(&mut self.next),
             Answered::Wants => count(&mut self.wants),
-            Answered::Refused => count(&mut self.refused),
+            Answered::Refused | Answered::Unknown => count(&mut self.refused),
         }
         if agrees(sample) {
             count(&mut self.agree);
@@ -91,11 +65,13 @@ impl Counts {
     }
 }
 
-fn main(rt: HostRuntime) -> Result<(), Failure> {
+fn main(rt: HostRuntime) -> io::Result<()> {
+    let mut digits = Digits::default();
     let mut sample = Sample::new();
     let mut counts = Counts::default();
-    for line in BufReader::new(rt.alloc(), rt.reader())?.lines(rt.alloc()) {
-        if sample.read(line?.as_str())? == Kind::Answer {
+    for byte in BufReader::new(rt.alloc(), rt.reader())?.bytes() {
+        let ended = digits.take(byte?).and_then(|number| sample.take(number));
+        if ended == Some(Kind::Answer) {
             counts.add(rt.alloc(), &sample)?;
         }
     }
