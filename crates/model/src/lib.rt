@@ -260,6 +260,7 @@ impl State {
     }
 
     // The visits of a node: none where it has no slot.
+    // Kept: this and `streak_of` are the two slots that moves read, a line each over `slot_of` (d).
     pub fn visits_of(&self, node: u32) -> Visits
         ensures { result ≡ visits_of self.now node }
     {
