@@ -132,6 +132,7 @@ impl Sample {
     }
 
     // Sets a number of an array; a place that it doesn't have is passed over.
+    // Kept: the arrays are fields of two types, so their kinds are matched; and the cast cuts what a sheet's number can't hold, as it always did (d).
     fn set(&mut self, kind: Kind, place: u64, value: u64) {
         match kind {
             Kind::Sheet => {
