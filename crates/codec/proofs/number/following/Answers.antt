@@ -1,11 +1,8 @@
 use mathlib.Core.Path.{refl, sym, ◌∙◌}
 use Prim.Native.Nat.{◌-◌}
-use Rattle.std.specs.Prelude.{eqb}
 use native.Mathlib.Omega.{arith}
 use Rattle.std.proofs.Common.{rules}
-use borrow.Author.Tests.{ltb-false, eqb-true}
-use Rattle.std.proofs.lemmas.Bool.{eqb-false}
-use Rattle.laws.specs.Bool.{split}
+use borrow.Author.Tests.{ltb-false}
 use Rattle.codec.proofs.GroupsLaws.{there, following_start, following_scale, following_ninth, following_small, following_cut, following_zero, following_last, following_more, following_one, following_over}
 use Rattle.codec.proofs.StoredLaws.{bad_number, got_number}
 use Rattle.codec.proofs.number.following.Goals as goal
@@ -56,14 +53,15 @@ loop-group-preserved c =
 pub returns-in_err-last : goal.returns-in_err-last
 returns-in_err-last c = c.from_residual-in_err-last.ensures ∙ bad_number (following_cut c.loop-group.invariant (ltb-false _ _ (sym c.in_err-last.ensures.lookup.0)))
 
-pub overflow_add-value-2 : goal.overflow_add-value-2
-overflow_add-value-2 c = omega (arith, following_ninth c.loop-group.invariant c.loop-group-test.false, c.loop-group.invariant.low)
+pub overflow_add-result-then-last-eq1 : goal.overflow_add-result-then-last-eq1
+overflow_add-result-then-last-eq1 c = omega (arith, following_ninth c.loop-group.invariant c.loop-group-test.false, c.loop-group.invariant.low)
+
+pub returns-then-last-eq1 : goal.returns-then-last-eq1
+returns-then-last-eq1 c =
+    let t = there c.in_ok-last.ensures.lookup.0 c.in_ok-last.ensures.lookup.1 refl in
+    got_number (following_one c.loop-group.invariant t.low t.is c.if-last-eq1.true c.loop-group-test.false)
 
 pub returns : goal.returns
 returns c =
     let t = there c.in_ok-last.ensures.lookup.0 c.in_ok-last.ensures.lookup.1 refl in
-    let i = c.loop-group.invariant in
-    c.then_some.ensures
-    ∙ split (eqb c.in_ok-last.field-0.now 1)
-    (λ h. rw h (got_number (following_one i t.low t.is (eqb-true _ _ h) c.loop-group-test.false)))
-    (λ h. rw h (bad_number (following_over i t.low t.is (eqb-false _ _ h) c.loop-group-test.false)))
+    bad_number (following_over c.loop-group.invariant t.low t.is c.if-last-eq1.false c.loop-group-test.false)
