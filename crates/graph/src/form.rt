@@ -235,6 +235,7 @@ fn is_formed(w: &[u32; NUMBERS]) -> bool
         && is_blank(w)
 }
 
+#[inline(never)]
 pub fn rule_20(w: &[u32; NUMBERS]) -> Result<(), Broken>
     ensures { result ≡ rule Refusal.Form (form (workflow w.now)) }
 {
