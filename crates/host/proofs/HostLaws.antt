@@ -111,9 +111,12 @@ module _ (w : List ℕ) (n : ℕ) (c r b : List ℕ) where
   unfolding answered
   left p z e = e ∙ rw p (sym (if_true _ _ _ (eq-eqb _ layout.written z)))
 
-  pub untouched : (fault : Fault) → fault_number fault ≡ receipt n c r (length b) → b ≡ answered w n c r b
+  pub untouched : (receipt n c r (length b) ≡ layout.written → ⊥) → b ≡ answered w n c r b
   unfolding answered
-  untouched fault e = sym (if_false _ _ _ (ne_eqb _ layout.written (λ z. fault_told fault (e ∙ z))))
+  untouched e = sym (if_false _ _ _ (ne_eqb _ layout.written e))
+
+  pub untouched_at : (fault : Fault) → fault_number fault ≡ receipt n c r (length b) → b ≡ answered w n c r b
+  untouched_at fault e = untouched (λ z. fault_told fault (e ∙ z))
 
 -- A VERDICT'S two numbers.
 verdict_front : (v : Verdict) (b : List ℕ) → verdict_numbers v ++ drop verdict_length b ≡ splice b 0 (verdict_numbers v)

@@ -60,17 +60,28 @@ fn nodes<W: Write, const N: usize>(
     Ok(())
 }
 
-// The run's bytes, two digits each.
+fn digit(n: u8) -> u8 {
+    match n {
+        0..=9 => b'0' + n,
+        10..=15 => b'a' + (n - 10),
+        _ => b'?',
+    }
+}
+
+// The run's bytes, two digits each, and the end of the line.
+// Kept: digits by hand in one text, since `{byte:02x}` for each byte took twice the whole program's work (b).
 fn hexadecimal<W: Write>(to: &mut W, xs: &[u64; ANSWER]) -> io::Result<()> {
     let run = <&[u64; layout::RECORD]>::try_from(&xs[RUN..]).unwrap();
     let mut bytes = [0u8; RUN_BYTES];
     let size = in_bytes::run::run_size(run);
     if size <= RUN_BYTES {
         in_bytes::run::write_run(&mut bytes, 0, run);
-        for byte in &bytes[..size] {
-            write!(to, "{byte:02x}")?;
+        let mut text = [b'\n'; 2 * RUN_BYTES + 1];
+        let (pairs, _) = text.as_chunks_mut::<2>();
+        for (pair, byte) in pairs.iter_mut().zip(&bytes[..size]) {
+            *pair = [digit(byte / 16), digit(byte % 16)];
         }
-        writeln!(to)?;
+        to.write_all(&text[..2 * size + 1])?;
     }
     Ok(())
 }

@@ -1,7 +1,7 @@
 -- Between the rules of the events and their code: what an event makes of a run is a value first, and is done to the record then.
 use Rattle.std.specs.Prelude.{◌≡◌, Option, Some, None}
 use Rattle.std.proofs.Math.Bool.{and_assoc}
-use Rattle.workflow.specs.View.{Workflow, workflow}
+use Rattle.workflow.specs.View.{Workflow}
 use Rattle.model.specs.Code.{needs_intervention}
 use Rattle.model.specs.declared.State.{State}
 use Rattle.model.specs.declared.event.Event.{Event}
@@ -13,7 +13,6 @@ use Rattle.model.specs.Record.{placed}
 use Rattle.laws.specs.Bool.{deciding}
 use Rattle.model.specs.Store.{appended}
 use Rattle.model.specs.Step.{still, phased, arrival, terminate, retry}
-use Rattle.machine.specs.declared.events.Machine.{Machine}
 use Rattle.machine.specs.declared.reaction.Reaction.{Reaction}
 use Rattle.machine.specs.declared.reaction.Reaction.TheVariants.{Pass, Store, Say, Route, Retry, Park, Fail}
 use Rattle.machine.specs.Events.{complete_invocation}
@@ -36,8 +35,23 @@ performed sheet state event (Park phase kept note) =
     told (placed state needs_intervention state.position (phased state.invocation phase state.invocation.attempt kept)) note None
 performed sheet state event (Fail why) = terminate sheet state why
 
--- The reaction is what the rule makes of the run that hears the event.
-abbrev pub Reacts : Machine → Reaction → (rule : Workflow → State → Event → Move) → Type 0
-Reacts machine reaction rule =
-    performed (workflow machine.sheet.now) machine.state.now machine.event.now reaction
-    ≡ rule (workflow machine.sheet.now) machine.state.now machine.event.now
+-- A record that stands where another does, with its invocation.
+pub record At (stood state : State) : Type 0 where
+  pub position_is : state.position ≡ stood.position
+  pub invocation_is : state.invocation ≡ stood.invocation
+
+-- One that has its status and its count of stored signals too.
+pub record Stands (stood state : State) : Type 0 where
+  pub at : At stood state
+  pub status_is : state.status ≡ stood.status
+  pub count_is : state.signal_count ≡ stood.signal_count
+
+-- One that may have any invocation.
+pub record Waits (stood state : State) : Type 0 where
+  pub position_is : state.position ≡ stood.position
+  pub status_is : state.status ≡ stood.status
+  pub count_is : state.signal_count ≡ stood.signal_count
+
+-- The reaction is what the rule makes of every record that stands so.
+abbrev pub Reacts : Workflow → Event → Reaction → (stands : State → Type 0) → (rule : Workflow → State → Event → Move) → Type 0
+Reacts sheet event reaction stands rule = (state : State) → stands state → performed sheet state event reaction ≡ rule sheet state event

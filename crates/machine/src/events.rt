@@ -2,14 +2,14 @@
 #![tactic(auto, using(crate::specs::ReactionLaws::choosing), unfolding(crate::specs::ReactionLaws::performed, crate::specs::Events::not_applicable, crate::specs::Events::on_ended, crate::specs::Events::on_signal, crate::specs::Events::on_success, crate::specs::Events::on_failure, crate::specs::Events::on_unknown, crate::specs::Events::on_result, crate::specs::Events::resolve_as_complete, crate::specs::Events::resolve_as_fail, crate::specs::Events::on_resolved, crate::specs::Events::react))]
 
 ghost use Rattle.std.specs.Prelude.{◌≡◌, not, eqb};
-ghost use Rattle.workflow.specs.View.{workflow};
+ghost use Rattle.workflow.specs.View.{Workflow, workflow};
 ghost use Rattle.laws.specs.Bool.{◌and◌};
 ghost use Rattle.workflow.specs.Lookup.{node_of, policy_of};
 ghost use Rattle.workflow.specs.Code.{repeatable};
 ghost use Rattle.model.specs.Code.{waiting};
 ghost use Rattle.model.specs.Step.{arrival};
 ghost use Rattle.machine.specs.Events.{success_outcome, action_at, may_retry, delay_of, not_applicable, on_ended, on_signal, on_success, on_failure, on_unknown, on_result, resolve_as_complete, resolve_as_fail, on_resolved, react};
-ghost use Rattle.machine.specs.ReactionLaws.{Reacts};
+ghost use Rattle.machine.specs.ReactionLaws.{performed, At, Stands, Waits, Reacts};
 
 use crate::reaction::Reaction;
 use model::answer::{Ended, Noted, Reason};
@@ -101,7 +101,7 @@ impl<'a> Machine<'a> {
 
     // An arrival that the run waits for is taken ahead of the store. Otherwise it is stored last; one too many is dropped.
     pub fn on_signal(&self) -> Reaction
-        ensures { Reacts self.now result on_signal }
+        ensures { Reacts (workflow self.now.sheet.now) self.now.event.now result (Waits self.now.state.now) on_signal }
     {
         if self.is_awaited() {
             return Reaction::Pass(Next::Take);
@@ -117,7 +117,7 @@ impl<'a> Machine<'a> {
 
     // An outcome that the action doesn't declare is a failure.
     fn on_success(&self) -> Reaction
-        ensures { Reacts self.now result on_success }
+        ensures { Reacts (workflow self.now.sheet.now) self.now.event.now result (At self.now.state.now) on_success }
     {
         let outcome = success_outcome(self.event.outcome);
         let output = Output::Handle(self.event.output);
@@ -129,7 +129,7 @@ impl<'a> Machine<'a> {
 
     // A failure is retried, or fails the invocation with its error if it has one.
     fn on_failure(&self) -> Reaction
-        ensures { Reacts self.now result on_failure }
+        ensures { Reacts (workflow self.now.sheet.now) self.now.event.now result (At self.now.state.now) on_failure }
     {
         if self.may_retry_failure() {
             return Reaction::Retry(self.delay_of(self.action()));
@@ -142,7 +142,7 @@ impl<'a> Machine<'a> {
 
     // Unknown or expired on effect 1 parks the run.
     fn on_unknown(&self) -> Reaction
-        ensures { Reacts self.now result on_unknown }
+        ensures { Reacts (workflow self.now.sheet.now) self.now.event.now result (At self.now.state.now) on_unknown }
     {
         if self.needs_person() {
             let noted = Noted::Unknown {
@@ -164,7 +164,7 @@ impl<'a> Machine<'a> {
 
     // A result that doesn't apply is stale.
     pub fn on_result(&self) -> Reaction
-        ensures { Reacts self.now result on_result }
+        ensures { Reacts (workflow self.now.sheet.now) self.now.event.now result (At self.now.state.now) on_result }
     {
         if !self.applies() {
             let noted = Noted::Stale {
@@ -183,7 +183,7 @@ impl<'a> Machine<'a> {
 
     // The resolution is noted with the reason why it doesn't apply.
     fn not_applicable(&self, reason: Reason) -> Reaction
-        ensures { Reacts self.now result (λ _ s e. not_applicable s e reason) }
+        ensures { (sheet : Workflow) → Reacts sheet self.now.event.now result (At self.now.state.now) (λ _ s e. not_applicable s e reason) }
     {
         let noted = Noted::NotApplicable {
             node: self.event.node,
@@ -195,7 +195,7 @@ impl<'a> Machine<'a> {
 
     // The outcome must be one that the action declares.
     fn resolve_as_complete(&self) -> Reaction
-        ensures { Reacts self.now result resolve_as_complete }
+        ensures { Reacts (workflow self.now.sheet.now) self.now.event.now result (At self.now.state.now) resolve_as_complete }
     {
         let outcome = self.event.outcome;
         if workflow::declares(self.sheet, self.action(), outcome) {
@@ -209,7 +209,7 @@ impl<'a> Machine<'a> {
 
     // A stuck run ends as failed with the kept error, even where failed is routed.
     fn resolve_as_fail(&self) -> Reaction
-        ensures { Reacts self.now result (λ f s. resolve_as_fail f s.invocation.error s) }
+        ensures { Reacts (workflow self.now.sheet.now) self.now.event.now result (At self.now.state.now) (λ f s. resolve_as_fail f self.now.state.now.invocation.error s) }
     {
         match self.state.invocation.error {
             Some(error) => Reaction::Fail(error),
@@ -219,7 +219,7 @@ impl<'a> Machine<'a> {
 
     // A resolution applies only to the current visit. An operator's retry is held to no number of attempts, and has delay 0.
     pub fn on_resolved(&self) -> Reaction
-        ensures { Reacts self.now result on_resolved }
+        ensures { Reacts (workflow self.now.sheet.now) self.now.event.now result (At self.now.state.now) on_resolved }
     {
         if !self.named() {
             return self.not_applicable(Reason::Mismatch);
@@ -236,7 +236,7 @@ impl<'a> Machine<'a> {
 
     // An ended run only notes the event.
     pub fn on_ended(&self) -> Reaction
-        ensures { Reacts self.now result (λ _ s e. on_ended s e) }
+        ensures { (sheet : Workflow) (state : State) → performed sheet state self.now.event.now result ≡ on_ended state self.now.event.now }
     {
         let noted = Noted::Ignored {
             kind: self.event.kind,
@@ -249,7 +249,7 @@ impl<'a> Machine<'a> {
 
     // What the event makes of the run.
     pub fn react(&self) -> Reaction
-        ensures { Reacts self.now result react }
+        ensures { Reacts (workflow self.now.sheet.now) self.now.event.now result (Stands self.now.state.now) react }
     {
         if model::is_terminal(self.state.status) {
             return self.on_ended();

@@ -3,10 +3,11 @@
 
 ghost use Rattle.std.specs.Prelude.{◌≡◌};
 ghost use Rattle.workflow.specs.View.{workflow};
+ghost use Rattle.model.specs.declared.event.Event.{Event};
 ghost use Rattle.laws.specs.Bool.{◌and◌};
 ghost use Rattle.workflow.specs.Lookup.{is_0_2, routed};
 ghost use Rattle.machine.specs.Events.{named, named_node, applies, fail_invocation};
-ghost use Rattle.machine.specs.ReactionLaws.{Reacts};
+ghost use Rattle.machine.specs.ReactionLaws.{At, Reacts};
 
 use crate::events::Machine;
 use crate::reaction::Reaction;
@@ -63,7 +64,7 @@ impl<'a> Machine<'a> {
 
     // A failure follows route failed; without one, format 2 parks a result's failure as stuck, with its error kept, else the run fails.
     pub fn fail_invocation(&self, code: u32, detail: u32, may_park: bool) -> Reaction
-        ensures { Reacts self.now result (λ f s _. fail_invocation f s code detail may_park) }
+        ensures { (event : Event) → Reacts (workflow self.now.sheet.now) event result (At self.now.state.now) (λ f s _. fail_invocation f s code detail may_park) }
     {
         let node = self.state.position.node;
         let error = ErrorInfo { code, node, detail };

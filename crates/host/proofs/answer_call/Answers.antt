@@ -4,7 +4,7 @@ use Rattle.host.specs.Host.{Lent, receipt}
 use Rattle.host.specs.Receipt.{fault_number, outcome_number}
 use Rattle.host.proofs.AnswerBack.{full}
 use Rattle.host.proofs.WriteRowsLaws.{counted}
-use Rattle.host.proofs.HostLaws.{receipt_told, fault_told, made, left, untouched}
+use Rattle.host.proofs.HostLaws.{receipt_told, fault_told, made, left, untouched_at}
 use Rattle.host.proofs.answer_call.Goals as goal
 
 pub returns-in_err-by_numbers : goal.returns-in_err-by_numbers
@@ -16,7 +16,7 @@ returns-in_err-by_numbers c =
     let lent : Lent a.sheet_len (length a.call.now) (length a.given.now) (length a.answer.now) = record { sheet = c.if-sheet_len-ne-NUMBERS.false; call = k.long; given = g.long; roomy = c.if-answer-lt-ANSWER.false } in
     let told = receipt_told _ _ _ _ (p.1 ∙ ap Err p.2 ∙ c.in_err-by_numbers.ensures) k.same g.same lent in
     let number : fault_number p.0 ≡ receipt a.sheet_len a.call.now a.given.now (length a.answer.now) = ap outcome_number (sym p.1) ∙ told in
-    record { value = told; answer_after = untouched a.sheet.now _ _ _ _ p.0 number; full = λ z. absurd (fault_told p.0 (ap outcome_number (sym p.1) ∙ z)) }
+    record { value = told; answer_after = untouched_at a.sheet.now _ _ _ _ p.0 number; full = λ z. absurd (fault_told p.0 (ap outcome_number (sym p.1) ∙ z)) }
 
 pub write_decision-requires : goal.write_decision-requires
 write_decision-requires c = (c.if-answer-lt-ANSWER.false, omega (arith, c.capped-nodes.ensures), counted _ c.transition.ensures)
