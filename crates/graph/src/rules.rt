@@ -73,15 +73,15 @@ impl<'a> Outcomes<'a> {
         false
     }
 
-    // The outcomes that an activity may route: those its action declares, failed, and exhausted where it may.
-    // Kept: `exhausted` is one of the marks (d).
-    fn known(&self, exhausted: bool) -> [bool; OUTCOMES]
-        ensures { result ≡ known (marked self.now.numbers.now) exhausted }
+    // Some outcome is none of those that an activity may route: those its action declares, failed, and exhausted where it may.
+    // Kept: `exhausted` is one of the marks, and these aren't handed back, since they were then copied for each activity (d).
+    fn has_unknown(&self, declared: &Outcomes, exhausted: bool) -> bool
+        ensures { result ≡ some (unmarked (known (marked declared.now.numbers.now) exhausted)) self.now.numbers.now }
     {
-        let mut known = self.marks();
+        let mut known = declared.marks();
         known[OUTCOME_FAILED] = true;
         known[OUTCOME_EXHAUSTED] |= exhausted;
-        known
+        self.has_unmarked(&known)
     }
 
     // A limit is out of range, or its outcome is not marked.
@@ -277,7 +277,7 @@ impl<'a> At<'a> {
         };
         let routed = self.outcomes();
         declared.has_unmarked(&routed.marks())
-            || routed.has_unmarked(&declared.known(self.may_route_exhausted()))
+            || routed.has_unknown(&declared, self.may_route_exhausted())
             || self.leads_nowhere()
     }
 

@@ -12,10 +12,10 @@ numbers-requires c = declared_within (the_group c.args.self.now.of_node.formed c
 pub invariant_of-declared : goal.invariant_of-declared
 invariant_of-declared c = record { small = rw c.numbers.ensures (declared_outcomes (the_group c.args.self.now.of_node.formed c.capped-k.ensures c.of-rows.ensures)) }
 
-pub returns-then-has_unmarked-2 : goal.returns-then-has_unmarked-2
+pub returns-then-has_unknown : goal.returns-then-has_unknown
 unfolding ◌or◌
-returns-then-has_unmarked-2 c = rw (misroutes_at c.args.self.now.of_node (the_group c.args.self.now.of_node.formed c.capped-k.ensures c.of-rows.ensures), ← c.numbers.ensures, ← c.outcomes-routed.ensures) (search rules)
+returns-then-has_unknown c = rw (misroutes_at c.args.self.now.of_node (the_group c.args.self.now.of_node.formed c.capped-k.ensures c.of-rows.ensures), ← c.numbers.ensures, ← c.outcomes-routed.ensures) (search rules)
 
-pub returns-else-has_unmarked-2 : goal.returns-else-has_unmarked-2
+pub returns-else-has_unknown : goal.returns-else-has_unknown
 unfolding ◌or◌
-returns-else-has_unmarked-2 c = rw (misroutes_at c.args.self.now.of_node (the_group c.args.self.now.of_node.formed c.capped-k.ensures c.of-rows.ensures), ← c.numbers.ensures, ← c.outcomes-routed.ensures) (search rules)
+returns-else-has_unknown c = rw (misroutes_at c.args.self.now.of_node (the_group c.args.self.now.of_node.formed c.capped-k.ensures c.of-rows.ensures), ← c.numbers.ensures, ← c.outcomes-routed.ensures) (search rules)
